@@ -1,0 +1,4 @@
+pub mod DigitLaws
+pub mod FactLaws
+pub mod JobLaws
+pub mod SearchLaws

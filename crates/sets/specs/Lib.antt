@@ -1,0 +1,5 @@
+pub mod Digits
+pub mod Search
+pub mod Facts
+pub mod Jobs
+pub mod Members

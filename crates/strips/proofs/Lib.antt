@@ -1,0 +1,8 @@
+mod JobLaws
+pub mod Linear
+mod LoadedLaws
+pub mod Orders
+pub mod PartLaws
+mod RoundLaws
+mod SetLaws
+pub mod WalkLaws

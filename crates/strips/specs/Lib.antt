@@ -1,0 +1,10 @@
+pub mod Jobs
+pub mod Tasks
+pub mod Headers
+pub mod Loading
+pub mod Layering
+pub mod Rules
+pub mod Rounds
+pub mod Singly
+pub mod Linear
+pub mod Admits

@@ -1,0 +1,2 @@
+mod FaultLaws
+mod SheetLaws
