@@ -3,17 +3,16 @@ use mathlib.Core.Path.{_≡_, refl, sym, ap, _∙_}
 use mathlib.Core.Bool.{Bool, true, false, not, _&&_, _||_, or-comm}
 use mathlib.Core.Logic.{_⊎_, inl, inr}
 use Prim.Native.Nat.{ℕ, _<_}
-use lib.Dec.{eqb}
 use Rattle.std.specs.Orderings.{Decides}
 use Rattle.std.proofs.shelf.Tests.{and-parts, and-from, or-cases, or-left, or-right, both-ways, cases-bool, not-from-true, not-from-false}
-use Rattle.std.proofs.shelf.Ways.{decides-or, decides-and, decides-not, decides-eqb}
+use Rattle.std.proofs.shelf.Ways.{decides-or, decides-not}
 use Rattle.sets.specs.declared.facts.FactSet.{FactSet}
 use Rattle.sets.specs.Facts.{has}
 use Rattle.sets.proofs.FactLaws.{has-below}
 use Rattle.sets.proofs.SearchLaws.{decides-any}
 use Rattle.strips.specs.declared.job.Job.{Job}
 use Rattle.strips.specs.Jobs.{Spoils, Interferes, spoils, interferes}
-use Rattle.strips.specs.Rules.{apart, zoned, zones-agree, Zones-agree}
+use Rattle.strips.specs.Rules.{apart}
 
 in-either : (x y : Bool) → (x ≡ true) ⊎ (y ≡ true) → (x || y) ≡ true
 in-either x y (inl e) = or-left x y e
@@ -61,10 +60,3 @@ not-disjoint a b x r is d =
 
 pub decides-apart : (a b : Job) → Decides (apart a b) (Interferes a b → ⊥)
 decides-apart a b = decides-not (interferes a b) (decides-interferes a b)
-
-pub decides-zoned : (a b : Job) → Decides (zoned a b) ((Interferes a b → ⊥) × Zones-agree a b)
-decides-zoned a b =
-    decides-and (apart a b) (zones-agree a b) (decides-apart a b)
-    (decides-or (not (eqb (a .zone) (b .zone))) (eqb (a .zone) 0 || eqb (b .zone) 0)
-    (decides-not (eqb (a .zone) (b .zone)) (decides-eqb (a .zone) (b .zone)))
-    (decides-or (eqb (a .zone) 0) (eqb (b .zone) 0) (decides-eqb (a .zone) 0) (decides-eqb (b .zone) 0)))

@@ -7,7 +7,6 @@ use crate::faults::round_fault;
 use crate::verdict::Verdict;
 use sets::facts::FactSet;
 use sets::jobs::JobSet;
-use std::fmt;
 use strips::round::state_after;
 use strips::rule::Rule;
 use strips::task::Task;
@@ -17,14 +16,6 @@ use strips::task::Task;
 pub struct ShortSheet {
     pub places: usize,
     pub rounds: u16,
-}
-
-pub impl fmt::Display for ShortSheet as ShortSheetDisplay {
-    fn fmt<W: fmt::Write>(&self, f: &mut fmt::Formatter<W>) -> fmt::Result {
-        let places = self.places;
-        let rounds = self.rounds;
-        write!(f, "{rounds} rounds in use, but only {places} sheet places")
-    }
 }
 
 /// What is left to say where no round is at fault, and `state` is the last state.
