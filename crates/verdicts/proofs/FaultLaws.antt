@@ -19,7 +19,8 @@ use Rattle.strips.specs.Tasks.{Meaning}
 use Rattle.strips.specs.Rules.{Says}
 use Rattle.strips.specs.Rounds.{State, Round, Holds, round-of, Allowed}
 use Rattle.strips.proofs.WalkLaws.{Passed, passed-none, passed-here, passed-first, passed-more, passed-all}
-use Rattle.verdicts.specs.Judging.{Shut, Partner, Joined, Clashing, Lacks, Lacking}
+use Rattle.verdicts.specs.declared.verdict.Verdict.{Verdict}
+use Rattle.verdicts.specs.Judging.{Shut, Partner, Joined, Clashing, Lacks, Lacking, Fault, closed, clash, missing}
 
 some-none : {A : Type 0} {x : A} {P : Type 0} (o : Option A) → o ≡ Some x → o ≡ None → P
 some-none o e n = let z : _≡_ {A = ℕ} 0 1 = cc in absurd (omega arith)
@@ -160,3 +161,12 @@ module _ (T : Meaning) (R : Says) (s : State) (r : Round) (swap : (a b : Job) �
         ];
     held = λ j a rj ja. holds-all s (a .needs) (λ f lacks. full j f (rj, (a, ja, lacks)));
   }
+
+-- a round with a fault is not
+module _ (T : Meaning) (R : Says) where
+  pub fault-not-allowed : (s : State) (i : ℕ) (r : Round) (v : Verdict) → Fault T R s i r v → Allowed T R s r → ⊥
+  fault-not-allowed s i r v (closed j ((there, none), _) e) ok =
+      let (a, is) = ok .present j there in let z : _≡_ {A = ℕ} 0 1 = cc in omega arith
+  fault-not-allowed s i r v (clash j k _ _ ((there, (a, ja, (lt, also, (b, kb, no′)))), _) e) ok =
+      both-ways (R a b) no′ (ok .shared j k a b there also (omega arith) ja kb)
+  fault-not-allowed s i r v (missing j f _ _ _ ((there, (a, ja, (needs, lacks))), _) e) ok = both-ways (s f) lacks (ok .held j a there ja f needs)

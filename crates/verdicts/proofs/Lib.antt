@@ -1,2 +1,3 @@
 mod FaultLaws
+mod OneVerdict
 mod SheetLaws

@@ -23,6 +23,8 @@ use Rattle.verdicts.specs.declared.verdict.Verdict.{Verdict}
 use Rattle.verdicts.specs.Verdicts.{told, Sounds}
 use Rattle.verdicts.specs.Judging.{Fault, closed, clash, missing, Ended, goal, sound, Judged-from, Judged}
 use Rattle.verdicts.specs.Sheets.{rounds-of, Verdict-on}
+use Rattle.verdicts.proofs.FaultLaws.{fault-not-allowed}
+use Rattle.verdicts.proofs.OneVerdict.{one-verdict}
 
 module _ (m n : ℕ) (sheet : List JobSet) (room : n ≤ length sheet) where
   rounds-long : length (rounds-of m n sheet) ≡ n
@@ -54,13 +56,6 @@ module _ (T : Meaning) (R : Says) where
   fault-not-sound s i r v (clash j k _ _ _ e) h = with-number v _ i _ e h
   fault-not-sound s i r v (missing j f _ _ _ _ e) h = with-number v _ i _ e h
 
-  fault-not-allowed : (s : State) (i : ℕ) (r : Round) (v : Verdict) → Fault T R s i r v → Allowed T R s r → ⊥
-  fault-not-allowed s i r v (closed j ((there, none), _) e) ok =
-      let (a, is) = ok .present j there in let z : _≡_ {A = ℕ} 0 1 = cc in omega arith
-  fault-not-allowed s i r v (clash j k _ _ ((there, (a, ja, (lt, also, (b, kb, no′)))), _) e) ok =
-      both-ways (R a b) no′ (ok .shared j k a b there also (omega arith) ja kb)
-  fault-not-allowed s i r v (missing j f _ _ _ ((there, (a, ja, (needs, lacks))), _) e) ok = both-ways (s f) lacks (ok .held j a there ja f needs)
-
   sound-plan : (rs : List Round) (s : State) (i : ℕ) (v : Verdict) → Judged-from T R s i rs v → Sounds v → Plan-from T R s rs
   sound-plan [] s i v (goal f low e) h = absurd (with-number v _ f _ e h)
   sound-plan [] s i v (sound holds e) h = holds
@@ -70,7 +65,7 @@ module _ (T : Meaning) (R : Says) where
   plan-sound : (rs : List Round) (s : State) (i : ℕ) (v : Verdict) → Judged-from T R s i rs v → Plan-from T R s rs → Sounds v
   plan-sound [] s i v (goal f ((g, lacks), _) e) h = absurd (both-ways (s f) lacks (h f g))
   plan-sound [] s i v (sound holds e) h = e
-  plan-sound (r ∷ rs) s i v (inl fault) (ok, h) = absurd (fault-not-allowed s i r v fault ok)
+  plan-sound (r ∷ rs) s i v (inl fault) (ok, h) = absurd (fault-not-allowed T R s i r v fault ok)
   plan-sound (r ∷ rs) s i v (inr (_, rest)) (ok, h) = plan-sound rs (result T s r) (i + 1) v rest h
 
   pub verdict-on : Admitted T → Lawful R → (n : ℕ) (sheet : List JobSet) (v : Verdict) → Judged T R (rounds-of (T .m) n sheet) v
@@ -82,6 +77,7 @@ module _ (T : Meaning) (R : Says) where
         first-fault = judged;
         sound-is-plan = (sound-plan rs start 0 v judged, plan-sound rs start 0 v judged);
         linear = λ h. plans-are-linear T R ok law rs (sound-plan rs start 0 v judged h);
+        only = λ w other. one-verdict T R rs start 0 w v other judged;
         ordered = rounds-have-orders (T .m) rs (numbered (T .m) (take n sheet));
       }
 

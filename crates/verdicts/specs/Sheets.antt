@@ -1,10 +1,10 @@
 -- What is answered of a sheet.
 --
 --   rounds-of m n sheet        the rounds at the first n places of the sheet, for m jobs
---   Verdict-on T R rs v        v is the verdict on the rounds rs, and what it says of plans holds: it is
---                              sound exactly if they are a plan, and then every free order of them is
---                              permitted job by job and all end in one state, which holds the goal; and
---                              there is a free order
+--   Verdict-on T R rs v        v is the verdict on the rounds rs, the only one, and what it says of plans
+--                              holds: it is sound exactly if they are a plan, and then every free order
+--                              of them is permitted job by job and all end in one state, which holds the
+--                              goal; and there is a free order
 --   Answered T R sheet n r     the verdict on the first n places; or fewer were supplied, which is refused
 use Prim.Native.Nat.{ℕ, _≤_, _<_}
 use mathlib.Core.List.{List, map}
@@ -21,7 +21,7 @@ use Rattle.strips.specs.Singly.{Free-order}
 use Rattle.strips.specs.Linear.{Linear}
 use Rattle.verdicts.specs.declared.verdict.Verdict.{Verdict}
 use Rattle.verdicts.specs.declared.sheet.ShortSheet.{ShortSheet}
-use Rattle.verdicts.specs.Verdicts.{Sounds}
+use Rattle.verdicts.specs.Verdicts.{told, Sounds}
 use Rattle.verdicts.specs.Judging.{Judged}
 
 abbrev pub rounds-of : ℕ → ℕ → List JobSet → List Round
@@ -29,6 +29,7 @@ rounds-of m n sheet = map (round-of m) (take n sheet)
 
 pub record Verdict-on (T : Meaning) (R : Says) (rs : List Round) (v : Verdict) : Type 0 where
   pub first-fault : Judged T R rs v
+  pub only : (w : Verdict) → Judged T R rs w → told w ≡ told v
   pub sound-is-plan : Sounds v ↔ Plan T R rs
   pub linear : Sounds v → Linear T rs
   pub ordered : (js : List ℕ) × Free-order rs js

@@ -1,0 +1,3 @@
+//! Small counts with known verdicts, run as tests.
+#[cfg(test)]
+mod twin;
