@@ -11,7 +11,7 @@ use Rattle.std.proofs.shelf.Ways.{tells}
 use native.Mathlib.Omega.{arith}
 use lib.Dec.{eqb, ltb, lit<, eqb·suc-zero, eqb·zero-suc, eqb·suc-suc, leb·zero, leb·suc-zero, leb·suc-suc}
 use lib.Bits.{bitAnd, bitOr, bitXor, and-shr, or-shr, xor-shr, and-mod, or-mod, xor-mod}
-use lib.Pow.{pow-pos, shr-shr, shr-lt, mod-mod-pow, field}
+use lib.Pow.{shr-shr, shr-lt, mod-mod-pow, field}
 use lib.Count.{trailingZeros, under}
 use Rattle.sets.specs.Digits.{bit, word}
 

@@ -1,15 +1,15 @@
 -- The laws of `has` and `set-of`.
 use mathlib.Core.Path.{_≡_, refl, sym, ap, ap₂, _∙_}
-use mathlib.Core.Bool.{Bool, true, false, not, _&&_, _||_, cond}
-use mathlib.Core.Logic.{_⊎_, inl, inr}
-use Prim.Native.Nat.{ℕ, _+_, _-_, _/_, _%_, _^_, _≤_, _<_}
+use mathlib.Core.Bool.{Bool, true, false, _&&_, cond}
+use mathlib.Core.Logic.{inl, inr}
+use Prim.Native.Nat.{ℕ, _+_, _-_, _%_, _^_, _≤_, _<_}
 use native.Mathlib.Omega.{arith}
 use lib.Dec.{eqb, ltb}
 use lib.Count.{trailingZeros}
 use Rattle.std.proofs.shelf.Tests.{cases-lt, lt-ltb, le-ltb, cond-true, cond-false, both-ways, and-parts}
 use Rattle.std.proofs.shelf.Ways.{tells}
 use Rattle.sets.specs.declared.facts.FactSet.{FactSet}
-use Rattle.sets.specs.Digits.{bit, word}
+use Rattle.sets.specs.Digits.{bit}
 use Rattle.sets.specs.Facts.{has, set-of}
 use Rattle.sets.specs.Search.{Lowest}
 use Rattle.sets.proofs.DigitLaws.{bit-zero, bit-pow, bit-mod, bit-word, word-lt, same-digits, none-set, before-trailing, at-trailing, trailing-below}

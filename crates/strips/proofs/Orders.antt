@@ -2,13 +2,13 @@
 use mathlib.Core.Path.{_≡_, refl, sym, subst}
 use mathlib.Core.Bool.{Bool, true, false, cond}
 use mathlib.Core.List.{List, [], _∷_, _++_}
-use mathlib.Core.Logic.{_⊎_, inl, inr}
+use mathlib.Core.Logic.{inl, inr}
 use Prim.Native.Nat.{ℕ, zero, suc, _<_}
 use native.Mathlib.Omega.{arith}
 use Rattle.std.proofs.shelf.Tests.{both-ways, cases-eq}
 use Rattle.strips.specs.Rounds.{Round}
-use Rattle.strips.specs.Singly.{Among, Once, Order-of, Free-order}
-use Rattle.strips.specs.Linear.{Numbered, Rounds-have-orders}
+use Rattle.strips.specs.Singly.{Among, Once, Order-of}
+use Rattle.strips.specs.Linear.{Rounds-have-orders}
 
 -- the jobs of the round below m, falling
 abbrev listing : Round → ℕ → List ℕ

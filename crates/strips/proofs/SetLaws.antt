@@ -1,14 +1,12 @@
 -- The sets of a job that is made from a row.
-use mathlib.Core.Path.{_≡_, refl, sym, ap, ap₂, _∙_}
+use mathlib.Core.Path.{_≡_, refl, ap₂, _∙_}
 use mathlib.Core.Bool.{Bool, true, false, not, _&&_}
 use Prim.Native.Nat.{ℕ, _<_, _^_}
 use lib.Dec.{ltb}
 use Rattle.sets.specs.declared.facts.FactSet.{FactSet}
 use Rattle.sets.specs.Facts.{has, set-of}
 use Rattle.sets.proofs.FactLaws.{is-set-of}
-use Rattle.strips.specs.declared.job.Job.{Job}
-use Rattle.strips.specs.declared.row.Row.{Row}
-use Rattle.strips.specs.Loading.{within, job-of}
+use Rattle.strips.specs.Loading.{within}
 
 pub is-within : (n : ℕ) (s r : FactSet) → r .low < 2 ^ 64 → r .high < 2 ^ 64 → ((f : ℕ) → has r f ≡ (ltb f n && has s f)) → r ≡ within n s
 is-within n s r l h same = is-set-of r (λ f. ltb f n && has s f) l h same

@@ -1,12 +1,12 @@
 -- Why each implementation of a task is admitted.
-use mathlib.Core.Path.{_≡_, refl, sym, ap, _∙_, subst}
+use mathlib.Core.Path.{_≡_, refl, ap, subst}
 use mathlib.Core.Bool.{Bool, true, false, not, _&&_, cond}
 use mathlib.Core.List.{List}
 use mathlib.Core.Logic.{inl, inr}
-use Prim.Native.Nat.{ℕ, _≤_, _<_, min}
+use Prim.Native.Nat.{ℕ}
 use native.Mathlib.Omega.{arith}
 use lib.Dec.{ltb}
-use lib.ListN.{length, take, length-take}
+use lib.ListN.{take, length-take}
 use Rattle.std.specs.declared.option.Option.{Option}
 use Rattle.std.specs.declared.option.Option.the-variants.{Some, None}
 use Rattle.std.specs.Finite.{nth}
@@ -22,7 +22,7 @@ use Rattle.strips.specs.declared.job.Job.{Job}
 use Rattle.strips.specs.declared.row.Row.{Row}
 use Rattle.strips.specs.declared.header.Header.{Header}
 use Rattle.strips.specs.Tasks.{Meaning, Below, Fair, Admitted}
-use Rattle.strips.specs.Loading.{within, job-of, loaded}
+use Rattle.strips.specs.Loading.{job-of, loaded}
 use Rattle.strips.specs.Layering.{withheld, moved}
 
 -- a set whose test asks for facts below n

@@ -4,9 +4,8 @@
 --   Stray n s          a fact of the set s that is not below n
 --   Headed n m s g r   r is the header of these four; or the first thing that is wrong with them: the
 --                      number of facts, else the lowest stray fact of the start, else of the goal
-use Prim.Native.Nat.{ℕ, _≤_, _<_}
+use Prim.Native.Nat.{ℕ, _≤_}
 use mathlib.Core.Bool.{true}
-use mathlib.Core.Logic.{_⊎_}
 use mathlib.Core.Path.{_≡_}
 use Rattle.std.specs.declared.result.Result.{Result}
 use Rattle.std.specs.declared.result.Result.the-variants.{Ok, Err}

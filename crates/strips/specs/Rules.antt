@@ -6,7 +6,6 @@
 --   apart          yes exactly if they don't interfere
 --   single-file    always no
 --   zoned          yes exactly if apart says so and the zones agree: they differ or one is 0, no zone
-use Prim.Native.Nat.{ℕ}
 use mathlib.Core.Bool.{Bool, true, false, not, _&&_, _||_}
 use mathlib.Core.Logic.{_⊎_, _≢_}
 use mathlib.Core.Path.{_≡_}

@@ -1,7 +1,7 @@
 -- The searches of one round, step by step.
 use mathlib.Core.Path.{_≡_, refl, sym, ap, subst, _∙_}
 use mathlib.Core.Bool.{Bool, true, false, not, _&&_}
-use mathlib.Core.Logic.{_⊎_, _≢_, inl, inr}
+use mathlib.Core.Logic.{_⊎_, inl, inr}
 use Prim.Native.Nat.{ℕ, _+_, _≤_, _<_}
 use native.Mathlib.Omega.{arith}
 use Rattle.std.specs.declared.option.Option.{Option}
@@ -20,7 +20,7 @@ use Rattle.strips.specs.Rules.{Says}
 use Rattle.strips.specs.Rounds.{State, Round, Holds, round-of, Allowed}
 use Rattle.strips.proofs.WalkLaws.{Passed, passed-none, passed-here, passed-first, passed-more, passed-all}
 use Rattle.verdicts.specs.declared.verdict.Verdict.{Verdict}
-use Rattle.verdicts.specs.Judging.{Shut, Partner, Joined, Clashing, Lacks, Lacking, Fault, closed, clash, missing}
+use Rattle.verdicts.specs.Judging.{Absent, Partner, Joined, Clashing, Lacks, Lacking, Fault, closed, clash, missing}
 
 some-none : {A : Type 0} {x : A} {P : Type 0} (o : Option A) → o ≡ Some x → o ≡ None → P
 some-none o e n = let z : _≡_ {A = ℕ} 0 1 = cc in absurd (omega arith)
@@ -42,21 +42,21 @@ pub walk-starts : (T : Meaning) (place : JobSet) (P : ℕ → Type 0) (s : Membe
 walk-starts T place P s m is m-is = passed-none 0 (T .m) place P s m is m-is (λ k lt. absurd (omega arith))
 
 -- a walk in search of the lowest absent job; o is what the task answers
-module _ (T : Meaning) (place : JobSet) (s u : Members) (j : ℕ) (o : Option Job) (so-far : Passed 0 (T .m) place (Shut T (round-of (T .m) place)) s)
+module _ (T : Meaning) (place : JobSet) (s u : Members) (j : ℕ) (o : Option Job) (so-far : Passed 0 (T .m) place (Absent T (round-of (T .m) place)) s)
     (step : Rises s (Some j) u) (is : o ≡ T .job j) where
-  pub shut-found : isSome o ≡ false → Lowest (Shut T (round-of (T .m) place)) j
-  shut-found none =
-      passed-first 0 (T .m) place (Shut T (round-of (T .m) place)) (λ i p. p .0) s so-far u j step
-      (passed-here 0 (T .m) place (Shut T (round-of (T .m) place)) s u j so-far step .1, sym is ∙ not-some o none)
+  pub absent-found : isSome o ≡ false → Lowest (Absent T (round-of (T .m) place)) j
+  absent-found none =
+      passed-first 0 (T .m) place (Absent T (round-of (T .m) place)) (λ i p. p .0) s so-far u j step
+      (passed-here 0 (T .m) place (Absent T (round-of (T .m) place)) s u j so-far step .1, sym is ∙ not-some o none)
 
-  pub shut-free : isSome o ≡ true → Passed 0 (T .m) place (Shut T (round-of (T .m) place)) u
-  shut-free some =
-      passed-more 0 (T .m) place (Shut T (round-of (T .m) place)) (λ i p. p .0) s so-far u j step
-      (λ shut. both-ways true (sym some ∙ ap isSome (is ∙ shut .1)) refl)
+  pub absent-free : isSome o ≡ true → Passed 0 (T .m) place (Absent T (round-of (T .m) place)) u
+  absent-free some =
+      passed-more 0 (T .m) place (Absent T (round-of (T .m) place)) (λ i p. p .0) s so-far u j step
+      (λ absent. both-ways true (sym some ∙ ap isSome (is ∙ absent .1)) refl)
 
-pub shut-none : (T : Meaning) (place : JobSet) (s u : Members) → Passed 0 (T .m) place (Shut T (round-of (T .m) place)) s → Rises s None u
-    → (j : ℕ) → Shut T (round-of (T .m) place) j → ⊥
-shut-none T place s u so-far step = passed-all 0 (T .m) place (Shut T (round-of (T .m) place)) (λ i p. p .0) s so-far u step
+pub absent-none : (T : Meaning) (place : JobSet) (s u : Members) → Passed 0 (T .m) place (Absent T (round-of (T .m) place)) s → Rises s None u
+    → (j : ℕ) → Absent T (round-of (T .m) place) j → ⊥
+absent-none T place s u so-far step = passed-all 0 (T .m) place (Absent T (round-of (T .m) place)) (λ i p. p .0) s so-far u step
 
 -- a walk in search of the lowest job that is joined to something
 module _ (T : Meaning) (place : JobSet) (To : ℕ → Job → ℕ → Type 0) where
@@ -144,7 +144,7 @@ pub holds-all : (s : State) (x : FactSet) → ((f : ℕ) → Lacks s x f → ⊥
 holds-all s x none f h = elim (cases-bool (s f)) [ inl e ↦ e | inr e ↦ absurd (none f (h, e)) ]
 
 -- a round without a fault is allowed
-module _ (T : Meaning) (R : Says) (s : State) (r : Round) (swap : (a b : Job) → R a b ≡ R b a) (open′ : (j : ℕ) → Shut T r j → ⊥)
+module _ (T : Meaning) (R : Says) (s : State) (r : Round) (swap : (a b : Job) → R a b ≡ R b a) (open′ : (j : ℕ) → Absent T r j → ⊥)
     (peace : (j k : ℕ) → Clashing T R r j k → ⊥) (full : (j f : ℕ) → Lacking T s r j f → ⊥) where
   below-shares : (j k : ℕ) (a b : Job) → r j ≡ true → r k ≡ true → j < k → T .job j ≡ Some a → T .job k ≡ Some b → R a b ≡ true
   below-shares j k a b rj rk lt ja kb =

@@ -1,15 +1,14 @@
 -- A list of rounds has one verdict.
-use mathlib.Core.Path.{_≡_, refl, sym, ap, subst, _∙_}
-use mathlib.Core.Bool.{true, false}
+use mathlib.Core.Path.{_≡_, sym, ap, subst, _∙_}
 use mathlib.Core.List.{List, [], _∷_}
-use mathlib.Core.Logic.{_⊎_, inl, inr}
-use Prim.Native.Nat.{ℕ, _+_, _<_}
+use mathlib.Core.Logic.{inl, inr}
+use Prim.Native.Nat.{ℕ, _+_}
 use lib.Chars.{codes}
 use Rattle.std.proofs.shelf.Tests.{both-ways, cases-order}
 use Rattle.sets.specs.Search.{Lowest}
 use Rattle.strips.specs.Tasks.{Meaning}
 use Rattle.strips.specs.Rules.{Says}
-use Rattle.strips.specs.Rounds.{State, Round, Holds, Allowed, result}
+use Rattle.strips.specs.Rounds.{State, Round, result}
 use Rattle.verdicts.specs.declared.verdict.Verdict.{Verdict}
 use Rattle.verdicts.specs.Verdicts.{told}
 use Rattle.verdicts.specs.Judging.{Fault, closed, clash, missing, Ended, goal, sound, Judged-from, Clashing, Lacking}

@@ -1,26 +1,23 @@
 -- The walk over a sheet, and what its verdict says of plans.
-use mathlib.Core.Path.{_≡_, refl, sym, ap, subst, _∙_}
-use mathlib.Core.Bool.{Bool, true, false, _&&_}
+use mathlib.Core.Path.{_≡_, sym, ap, subst, _∙_}
 use mathlib.Core.List.{List, [], _∷_, map}
-use mathlib.Core.Logic.{_⊎_, inl, inr, _↔_}
+use mathlib.Core.Logic.{inl, inr}
 use Prim.Native.Nat.{ℕ, suc, _+_, _≤_, _<_}
 use native.Mathlib.Omega.{arith}
-use lib.Chars.{codes}
 use lib.Dec.{ltb}
 use lib.ListN.{length, take, drop, getD, length-map, length-take}
 use Rattle.std.proofs.shelf.Lists.{drop-more, drop-all, getD-map, getD-take}
 use Rattle.std.proofs.shelf.Tests.{and-parts, ltb-true, both-ways}
-use Rattle.std.specs.declared.option.Option.the-variants.{Some, None}
 use Rattle.sets.specs.declared.jobs.JobSet.{JobSet}
 use Rattle.sets.specs.Facts.{has}
 use Rattle.strips.specs.Tasks.{Meaning, Admitted}
 use Rattle.strips.specs.Rules.{Says, Lawful}
-use Rattle.strips.specs.Rounds.{State, Round, round-of, Allowed, result, Plan-from, Plan}
+use Rattle.strips.specs.Rounds.{State, Round, round-of, Allowed, result, Plan-from}
 use Rattle.strips.specs.Linear.{Numbered}
 use Rattle.strips.proofs.Linear.{plans-are-linear}
 use Rattle.strips.proofs.Orders.{rounds-have-orders}
 use Rattle.verdicts.specs.declared.verdict.Verdict.{Verdict}
-use Rattle.verdicts.specs.Verdicts.{told, Sounds}
+use Rattle.verdicts.specs.Verdicts.{told, Is-sound}
 use Rattle.verdicts.specs.Judging.{Fault, closed, clash, missing, Ended, goal, sound, Judged-from, Judged}
 use Rattle.verdicts.specs.Sheets.{rounds-of, Verdict-on}
 use Rattle.verdicts.proofs.FaultLaws.{fault-not-allowed}
@@ -47,22 +44,22 @@ numbered m [] = tt
 numbered m (p ∷ ps) = ((λ j e. ltb-true j m (and-parts (ltb j m) _ e .0)), numbered m ps)
 
 -- sound is the one verdict without numbers
-with-number : (v : Verdict) (w : List ℕ) (n : ℕ) (ns : List ℕ) → told v ≡ (w, n ∷ ns) → Sounds v → ⊥
+with-number : (v : Verdict) (w : List ℕ) (n : ℕ) (ns : List ℕ) → told v ≡ (w, n ∷ ns) → Is-sound v → ⊥
 with-number v w n ns e h = let z : suc (length ns) ≡ 0 = ap (λ (p : List ℕ × List ℕ). length (p .1)) (sym e ∙ h) in omega arith
 
 module _ (T : Meaning) (R : Says) where
-  fault-not-sound : (s : State) (i : ℕ) (r : Round) (v : Verdict) → Fault T R s i r v → Sounds v → ⊥
+  fault-not-sound : (s : State) (i : ℕ) (r : Round) (v : Verdict) → Fault T R s i r v → Is-sound v → ⊥
   fault-not-sound s i r v (closed j _ e) h = with-number v _ i _ e h
   fault-not-sound s i r v (clash j k _ _ _ e) h = with-number v _ i _ e h
   fault-not-sound s i r v (missing j f _ _ _ _ e) h = with-number v _ i _ e h
 
-  sound-plan : (rs : List Round) (s : State) (i : ℕ) (v : Verdict) → Judged-from T R s i rs v → Sounds v → Plan-from T R s rs
+  sound-plan : (rs : List Round) (s : State) (i : ℕ) (v : Verdict) → Judged-from T R s i rs v → Is-sound v → Plan-from T R s rs
   sound-plan [] s i v (goal f low e) h = absurd (with-number v _ f _ e h)
   sound-plan [] s i v (sound holds e) h = holds
   sound-plan (r ∷ rs) s i v (inl fault) h = absurd (fault-not-sound s i r v fault h)
   sound-plan (r ∷ rs) s i v (inr (ok, rest)) h = (ok, sound-plan rs (result T s r) (i + 1) v rest h)
 
-  plan-sound : (rs : List Round) (s : State) (i : ℕ) (v : Verdict) → Judged-from T R s i rs v → Plan-from T R s rs → Sounds v
+  plan-sound : (rs : List Round) (s : State) (i : ℕ) (v : Verdict) → Judged-from T R s i rs v → Plan-from T R s rs → Is-sound v
   plan-sound [] s i v (goal f ((g, lacks), _) e) h = absurd (both-ways (s f) lacks (h f g))
   plan-sound [] s i v (sound holds e) h = e
   plan-sound (r ∷ rs) s i v (inl fault) (ok, h) = absurd (fault-not-allowed T R s i r v fault ok)

@@ -1,6 +1,6 @@
 -- The first fault of a list of rounds.
 --
---   Shut T r j            job j of round r is absent
+--   Absent T r j          job j of round r is absent
 --   Partner T R r j a k   job k of round r is above j, and the rule doesn't let job a share with it
 --   Clashing T R r j k    jobs j and k of round r, the first lower, may not share it
 --   Lacks s x f           fact f of the set x is not in the state s
@@ -23,10 +23,10 @@ use Rattle.strips.specs.Tasks.{Meaning}
 use Rattle.strips.specs.Rules.{Says}
 use Rattle.strips.specs.Rounds.{State, Round, Holds, Allowed, result}
 use Rattle.verdicts.specs.declared.verdict.Verdict.{Verdict}
-use Rattle.verdicts.specs.Verdicts.{told, Sounds}
+use Rattle.verdicts.specs.Verdicts.{told, Is-sound}
 
-abbrev pub Shut : Meaning → Round → ℕ → Type 0
-Shut T r j = (r j ≡ true) × (T .job j ≡ None)
+abbrev pub Absent : Meaning → Round → ℕ → Type 0
+Absent T r j = (r j ≡ true) × (T .job j ≡ None)
 
 abbrev pub Partner : Meaning → Says → Round → ℕ → Job → ℕ → Type 0
 Partner T R r j a k = (j < k) × (r k ≡ true) × ((b : Job) × (T .job k ≡ Some b) × (R a b ≡ false))
@@ -45,19 +45,19 @@ abbrev pub Lacking : Meaning → State → Round → ℕ → ℕ → Type 0
 Lacking T s r = Joined T r (λ j a. Lacks s (a .needs))
 
 pub data Fault (T : Meaning) (R : Says) (s : State) (i : ℕ) (r : Round) (v : Verdict) : Type 0 where
-  closed : (j : ℕ) → Lowest (Shut T r) j
+  closed : (j : ℕ) → Lowest (Absent T r) j
       → told v ≡ (codes "closed", i ∷ j ∷ []) → Fault T R s i r v
-  clash : (j k : ℕ) → ((h : ℕ) → Shut T r h → ⊥)
+  clash : (j k : ℕ) → ((h : ℕ) → Absent T r h → ⊥)
       → Lowest (λ h. (l : ℕ) × Clashing T R r h l) j → Lowest (Clashing T R r j) k
       → told v ≡ (codes "clash", i ∷ j ∷ k ∷ []) → Fault T R s i r v
-  missing : (j f : ℕ) → ((h : ℕ) → Shut T r h → ⊥) → ((h l : ℕ) → Clashing T R r h l → ⊥)
+  missing : (j f : ℕ) → ((h : ℕ) → Absent T r h → ⊥) → ((h l : ℕ) → Clashing T R r h l → ⊥)
       → Lowest (λ h. (g : ℕ) × Lacking T s r h g) j → Lowest (Lacking T s r j) f
       → told v ≡ (codes "missing", i ∷ j ∷ f ∷ []) → Fault T R s i r v
 
 pub data Ended (T : Meaning) (s : State) (v : Verdict) : Type 0 where
   goal : (f : ℕ) → Lowest (Lacks s (T .goal)) f
       → told v ≡ (codes "goal", f ∷ []) → Ended T s v
-  sound : Holds s (T .goal) → Sounds v → Ended T s v
+  sound : Holds s (T .goal) → Is-sound v → Ended T s v
 
 abbrev pub Judged-from : Meaning → Says → State → ℕ → List Round → Verdict → Type 0
 Judged-from T R s i [] v = Ended T s v

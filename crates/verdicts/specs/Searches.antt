@@ -1,6 +1,6 @@
 -- What the searches of one round answer, for the round at a sheet place.
 --
---   First-shut          its lowest absent job, if any
+--   First-absent        its lowest absent job, if any
 --   First-partner       the lowest job above a given one that may not share the round with it, if any
 --   First-clash         its lowest job that may not share it with one above, and the lowest such one
 --   First-lacking       its lowest job short of a need, and the lowest fact that it lacks
@@ -15,10 +15,10 @@ use Rattle.strips.specs.Tasks.{Meaning}
 use Rattle.strips.specs.Rules.{Says}
 use Rattle.strips.specs.Rounds.{State, round-of, Allowed}
 use Rattle.verdicts.specs.declared.verdict.Verdict.{Verdict}
-use Rattle.verdicts.specs.Judging.{Shut, Partner, Clashing, Lacking, Fault}
+use Rattle.verdicts.specs.Judging.{Absent, Partner, Clashing, Lacking, Fault}
 
-abbrev pub First-shut : Meaning → JobSet → Option ℕ → Type 0
-First-shut T p = Finds (Shut T (round-of (T .m) p))
+abbrev pub First-absent : Meaning → JobSet → Option ℕ → Type 0
+First-absent T p = Finds (Absent T (round-of (T .m) p))
 
 abbrev pub First-partner : Meaning → Says → JobSet → ℕ → Job → Option ℕ → Type 0
 First-partner T R p j a = Finds (Partner T R (round-of (T .m) p) j a)

@@ -21,7 +21,7 @@ use Rattle.strips.specs.Singly.{Free-order}
 use Rattle.strips.specs.Linear.{Linear}
 use Rattle.verdicts.specs.declared.verdict.Verdict.{Verdict}
 use Rattle.verdicts.specs.declared.sheet.ShortSheet.{ShortSheet}
-use Rattle.verdicts.specs.Verdicts.{told, Sounds}
+use Rattle.verdicts.specs.Verdicts.{told, Is-sound}
 use Rattle.verdicts.specs.Judging.{Judged}
 
 abbrev pub rounds-of : ℕ → ℕ → List JobSet → List Round
@@ -30,8 +30,8 @@ rounds-of m n sheet = map (round-of m) (take n sheet)
 pub record Verdict-on (T : Meaning) (R : Says) (rs : List Round) (v : Verdict) : Type 0 where
   pub first-fault : Judged T R rs v
   pub only : (w : Verdict) → Judged T R rs w → told w ≡ told v
-  pub sound-is-plan : Sounds v ↔ Plan T R rs
-  pub linear : Sounds v → Linear T rs
+  pub sound-is-plan : Is-sound v ↔ Plan T R rs
+  pub linear : Is-sound v → Linear T rs
   pub ordered : (js : List ℕ) × Free-order rs js
 
 abbrev pub Answered : Meaning → Says → List JobSet → ℕ → Result Verdict ShortSheet → Type 0

@@ -1,7 +1,7 @@
 -- Verdicts by their words.
 --
 --   told v           the word of verdict v, and its numbers in their order
---   Sounds v         v is the verdict sound
+--   Is-sound v       v is the verdict sound
 --   text v           how v reads: its word, then each number behind a blank, in decimal
 --   fault-round v    the round at fault, where a round is
 use Prim.Native.Nat.{ℕ}
@@ -21,8 +21,8 @@ told (Missing r j f) = (codes "missing", r ∷ j ∷ f ∷ [])
 told (Goal f) = (codes "goal", f ∷ [])
 told Sound = (codes "sound", [])
 
-abbrev pub Sounds : Verdict → Type 0
-Sounds v = told v ≡ (codes "sound", [])
+abbrev pub Is-sound : Verdict → Type 0
+Is-sound v = told v ≡ (codes "sound", [])
 
 abbrev pub spaced : List ℕ → List ℕ
 spaced [] = []

@@ -1,6 +1,6 @@
 //! The first fault of one round.
 ghost use Rattle.sets.specs.Facts.{has};
-ghost use Rattle.verdicts.specs.Searches.{First-shut, First-partner, First-clash, First-lacking, First-fault};
+ghost use Rattle.verdicts.specs.Searches.{First-absent, First-partner, First-clash, First-lacking, First-fault};
 use crate::verdict::Verdict;
 use sets::facts::FactSet;
 use sets::jobs::JobSet;
@@ -11,7 +11,7 @@ use strips::task::Task;
 
 /// The lowest job of the round that is absent.
 fn first_absent<S: Task>(task: &S, place: &JobSet) -> Option<u8>
-    ensures { λ r. ⌜ First-shut (S·Task .meaning (now (task .entry))) (now (place .entry)) r ⌝ }
+    ensures { λ r. ⌜ First-absent (S·Task .meaning (now (task .entry))) (now (place .entry)) r ⌝ }
 {
     for j in place.below(task.m()) {
         if task.job(j).is_none() {

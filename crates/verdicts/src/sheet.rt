@@ -1,5 +1,4 @@
 //! The walk over a sheet.
-ghost use Prim.Native.Nat.{ℕ};
 ghost use Rattle.sets.specs.Facts.{has};
 ghost use Rattle.verdicts.specs.Judging.{Ended};
 ghost use Rattle.verdicts.specs.Sheets.{Answered};

@@ -1,7 +1,5 @@
 use native.Mathlib.Omega.{arith}
-use mathlib.Core.Path.{_≡_, ap, subst}
 use Rattle.sets.specs.Facts.{has}
-use Rattle.strips.specs.Rules.{Lawful}
 use Rattle.verdicts.proofs.SheetLaws.{rest-fault, rest-more, rest-end, verdict-on}
 use Rattle.verdicts.proofs.sheet.sheet_verdict.Needs as need
 

@@ -1,4 +1,3 @@
-use Prim.Native.Nat.{_+_, _*_, _≤_, _<_}
 use mathlib.Core.Logic.{inl, inr}
 use native.Mathlib.Omega.{arith}
 use Rattle.std.proofs.shelf.Tests.{cases-lt, both-ways}

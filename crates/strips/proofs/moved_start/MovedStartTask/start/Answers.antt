@@ -1,6 +1,4 @@
-use mathlib.Core.Path.{_≡_}
 use native.Mathlib.Omega.{arith}
-use Rattle.strips.specs.Loading.{within}
 use Rattle.strips.proofs.SetLaws.{is-within}
 use Rattle.strips.proofs.moved_start.MovedStartTask.start.Needs as need
 

@@ -1,7 +1,4 @@
-use mathlib.Core.Path.{_≡_}
 use native.Mathlib.Omega.{arith}
-use Rattle.sets.specs.Facts.{set-of}
-use Rattle.strips.specs.Loading.{within}
 use Rattle.strips.proofs.SetLaws.{is-within, is-less}
 use Rattle.strips.proofs.row.Row.job.Needs as need
 
