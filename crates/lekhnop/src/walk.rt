@@ -11,7 +11,6 @@ use strips::rules::Apart;
 use strips::rules::ApartRule;
 use strips::task::Task;
 use verdicts::sheet::sheet_verdict;
-use verdicts::verdict::Verdict;
 use verdicts::verdict::VerdictDisplay;
 
 /// Prints the task: its numbers, start and goal, then a line for each job number.

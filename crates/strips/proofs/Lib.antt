@@ -1,6 +1,7 @@
 mod JobLaws
 pub mod Linear
 mod LoadedLaws
+mod MemberLaws
 pub mod Orders
 pub mod PartLaws
 mod RoundLaws

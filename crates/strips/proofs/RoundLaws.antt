@@ -1,52 +1,43 @@
 -- What the jobs of a round add and delete, gathered one job after the other.
 use mathlib.Core.Path.{_≡_, refl, sym, ap, ap₂, _∙_, fun-ext}
-use mathlib.Core.Bool.{Bool, true, false, not, _&&_, _||_, or-comm, or-false}
+use mathlib.Core.Bool.{Bool, false, not, _&&_, _||_, or-comm, or-false}
 use mathlib.Core.Logic.{inl, inr}
-use Prim.Native.Nat.{ℕ, _+_, _≤_, _<_}
+use Prim.Native.Nat.{ℕ, _+_, _≤_}
 use native.Mathlib.Omega.{arith}
 use lib.Dec.{ltb}
 use Rattle.std.specs.declared.option.Option.{Option}
 use Rattle.std.specs.declared.option.Option.the-variants.{Some, None}
-use Rattle.std.proofs.shelf.Tests.{and-parts, and-from, and-left, cases-bool, le-ltb, lt-ltb, ltb-true}
+use Rattle.std.proofs.shelf.Tests.{and-left, cases-bool, le-ltb}
 use Rattle.sets.specs.declared.facts.FactSet.{FactSet}
 use Rattle.sets.specs.declared.jobs.JobSet.{JobSet}
 use Rattle.sets.specs.declared.members.Members.{Members}
 use Rattle.sets.specs.Facts.{has}
-use Rattle.sets.specs.Jobs.{includes}
 use Rattle.sets.specs.Members.{Ahead, Rises}
 use Rattle.sets.specs.Search.{any, Lowest}
 use Rattle.sets.proofs.SearchLaws.{any-level, any-more}
 use Rattle.strips.specs.declared.job.Job.{Job}
 use Rattle.strips.specs.Tasks.{Meaning}
 use Rattle.strips.specs.Rounds.{round-of, in-part, some-job, result}
+use Rattle.strips.proofs.MemberLaws.{ahead, in-round}
 
 -- some present job of the round, numbered below `from`, has the fact in that part
 abbrev pub gathered : Meaning → (Job → FactSet) → JobSet → ℕ → ℕ → Bool
 gathered T part place from f = any from (λ j. round-of (T .m) place j && in-part part (T .job j) f)
 
 module _ (T : Meaning) (part : Job → FactSet) (place : JobSet) (s : Members) (set-is : s .set ≡ place) (end-is : s .end ≡ T .m) where
-  ahead : (j : ℕ) → s .from ≤ j → round-of (T .m) place j ≡ true → Ahead s j
-  ahead j le e =
-      let (low, there) = and-parts (ltb j (T .m)) (includes place j) e in
-      let lt : j < T .m = ltb-true j (T .m) low in
-      (le, omega arith, ap (λ (x : JobSet). includes x j) set-is ∙ there)
-
   -- a number that is not ahead, from the one reached up, gathers nothing
   not-ahead : (j f : ℕ) → s .from ≤ j → (Ahead s j → ⊥) → (round-of (T .m) place j && in-part part (T .job j) f) ≡ false
   not-ahead j f le off =
       elim (cases-bool (round-of (T .m) place j)) [
-        | inl e ↦ absurd (off (ahead j le e))
+        | inl e ↦ absurd (off (ahead (T .m) place s set-is end-is j le e))
         | inr e ↦ and-left (round-of (T .m) place j) _ e
       ]
 
   pub gathered-more : (j f : ℕ) → Lowest (Ahead s) j → gathered T part place (j + 1) f ≡ (in-part part (T .job j) f || gathered T part place (s .from) f)
   gathered-more j f (here, first) =
-      let (le, lt, there) = here in
-      let inside : round-of (T .m) place j ≡ true =
-      and-from _ _ (lt-ltb j (T .m) (omega arith)) (sym (ap (λ (x : JobSet). includes x j) set-is) ∙ there) in
       any-more j _
-      ∙ ap₂ _||_ (ap (λ (b : Bool). b && in-part part (T .job j) f) inside)
-      (any-level j (s .from) _ (λ k a b. absurd (omega arith)) (λ k a b. not-ahead k f a (first k b)))
+      ∙ ap₂ _||_ (ap (λ (b : Bool). b && in-part part (T .job j) f) (in-round (T .m) place s set-is end-is j here))
+      (any-level j (s .from) _ (λ k a b. let le = here .0 in absurd (omega arith)) (λ k a b. not-ahead k f a (first k b)))
 
   pub gathered-all : (f : ℕ) → ((j : ℕ) → Ahead s j → ⊥) → gathered T part place (s .from) f ≡ some-job T part (round-of (T .m) place) f
   unfolding some-job

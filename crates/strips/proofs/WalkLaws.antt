@@ -1,18 +1,17 @@
 -- A walk over the members of a sheet place, in search of the lowest job of which P holds.
-use mathlib.Core.Path.{_≡_, sym, ap, _∙_}
+use mathlib.Core.Path.{_≡_, ap, _∙_}
 use mathlib.Core.Bool.{true}
 use mathlib.Core.Logic.{inl, inr}
 use Prim.Native.Nat.{ℕ, _+_, _≤_, _<_}
 use native.Mathlib.Omega.{arith}
-use lib.Dec.{ltb}
 use Rattle.std.specs.declared.option.Option.the-variants.{Some, None}
-use Rattle.std.proofs.shelf.Tests.{and-parts, and-from, ltb-true, lt-ltb, cases-lt}
+use Rattle.std.proofs.shelf.Tests.{cases-lt}
 use Rattle.sets.specs.declared.jobs.JobSet.{JobSet}
 use Rattle.sets.specs.declared.members.Members.{Members}
-use Rattle.sets.specs.Jobs.{includes}
 use Rattle.sets.specs.Members.{Ahead, Rises}
 use Rattle.sets.specs.Search.{Lowest}
 use Rattle.strips.specs.Rounds.{round-of}
+use Rattle.strips.proofs.MemberLaws.{ahead, in-round}
 
 -- the walk s over the numbers of the place from `start` up and below m has passed nothing of which P holds
 pub record Passed (start m : ℕ) (place : JobSet) (P : ℕ → Type 0) (s : Members) : Type 0 where
@@ -36,25 +35,18 @@ module _ (start m : ℕ) (place : JobSet) (P : ℕ → Type 0) where
   -- the job that comes is in the round
   pub passed-here : (s u : Members) (j : ℕ) → Passed start m place P s → Rises s (Some j) u → (start ≤ j) × (round-of m place j ≡ true)
   passed-here s u j so-far ((here, _), _) =
-      let (le, lt, there) = here in
-      let same = so-far .end-is in
-      let from = so-far .low in (
-        omega arith,
-        and-from (ltb j m) (includes place j) (lt-ltb j m (omega arith)) (sym (ap (λ (x : JobSet). includes x j) (so-far .set-is)) ∙ there),
-      )
+      let from = so-far .low in
+      let le = here .0 in
+      (omega arith, in-round m place s (so-far .set-is) (so-far .end-is) j here)
 
   -- P holds only of jobs of the round
   module _ (inside : (k : ℕ) → P k → round-of m place k ≡ true) (s : Members) (so-far : Passed start m place P s) where
-    ahead : (k : ℕ) → s .from ≤ k → P k → Ahead s k
-    ahead k le p =
-        let (low, there) = and-parts (ltb k m) (includes place k) (inside k p) in
-        let lt : k < m = ltb-true k m low in
-        let same = so-far .end-is in
-        (le, omega arith, ap (λ (x : JobSet). includes x k) (so-far .set-is) ∙ there)
+    to-come : (k : ℕ) → s .from ≤ k → P k → Ahead s k
+    to-come k le p = ahead m place s (so-far .set-is) (so-far .end-is) k le (inside k p)
 
     below : (j : ℕ) → Lowest (Ahead s) j → (k : ℕ) → k < j → P k → ⊥
     below j low k lt p =
-        elim (cases-lt k (s .from)) [ inl b ↦ so-far .none k b p | inr b ↦ low .1 k lt (ahead k b p) ]
+        elim (cases-lt k (s .from)) [ inl b ↦ so-far .none k b p | inr b ↦ low .1 k lt (to-come k b p) ]
 
     pub passed-first : (u : Members) (j : ℕ) → Rises s (Some j) u → P j → Lowest P j
     passed-first u j (low, is) p = (p, below j low)
@@ -75,4 +67,4 @@ module _ (start m : ℕ) (place : JobSet) (P : ℕ → Type 0) where
 
     pub passed-all : (u : Members) → Rises s None u → (k : ℕ) → P k → ⊥
     passed-all u (off, is) k p =
-        elim (cases-lt k (s .from)) [ inl b ↦ so-far .none k b p | inr b ↦ off k (ahead k b p) ]
+        elim (cases-lt k (s .from)) [ inl b ↦ so-far .none k b p | inr b ↦ off k (to-come k b p) ]
