@@ -22,7 +22,7 @@ use strips::withheld::WithheldTask;
 use verdicts::sheet::sheet_verdict;
 use verdicts::verdict::VerdictDisplay;
 
-fn header() -> Result<Header, Fail> {
+pub fn header() -> Result<Header, Fail> {
     match Header::new(4, 2, FactSet::of(&[0, 2]), FactSet::of(&[1, 3])) {
         Ok(header) => Ok(header),
         Err(_) => Err(Fail::new("no header")),
@@ -30,7 +30,7 @@ fn header() -> Result<Header, Fail> {
 }
 
 /// Job 0 needs and deletes 0 and adds 1; job 1 needs and deletes 2 and adds 3.
-fn rows(zone: u8) -> [Row; 2] {
+pub fn rows(zone: u8) -> [Row; 2] {
     let first = FactSet::single(0);
     let second = FactSet::single(2);
     [

@@ -1,10 +1,16 @@
-//! Lekhnop walks through one count, the lift, and judges five sheets of rounds for it.
+//! Lekhnop walks through one count, the lift: it opens a book, grows its table under apart until a
+//! distance or none is told, and judges sheets of rounds; then it edits the sheet after every growing.
+mod desk;
 mod lift;
+mod print;
 mod show;
-mod walk;
+mod walks;
 
-use crate::walk::show_sheet;
-use crate::walk::show_task;
+use crate::desk::Desk;
+use crate::print::show_task;
+use crate::walks::edit_while_growing;
+use crate::walks::grow_until_told;
+use crate::walks::judge_sheet;
 use sets::jobs::JobSet;
 use std::error::AnyError;
 use strips::loaded::Loaded;
@@ -23,27 +29,23 @@ fn run(rt: &LibcRuntime) -> Result<(), AnyError> {
     };
     println!(rt, "The lift count:")?;
     show_task(rt, &lift)?;
-    let four = [
-        JobSet::of(&[0]),
-        JobSet::of(&[1]),
-        JobSet::of(&[2]),
-        JobSet::of(&[3]),
-    ];
-    show_sheet(rt, &lift, &four)?;
-    show_sheet(rt, &lift, &[JobSet::of(&[0, 1])])?;
-    show_sheet(rt, &lift, &[JobSet::of(&[0]), JobSet::of(&[2])])?;
-    show_sheet(
-        rt,
-        &lift,
-        &[JobSet::of(&[0]), JobSet::of(&[1]), JobSet::of(&[2])],
-    )?;
+    let mut desk = Desk::open(&lift)?;
+    grow_until_told(rt, &lift, &mut desk)?;
+    judge_sheet(rt, &lift, &mut desk, &[&[0], &[1], &[2], &[3]])?;
+    judge_sheet(rt, &lift, &mut desk, &[&[0, 1]])?;
+    judge_sheet(rt, &lift, &mut desk, &[&[0], &[2]])?;
+    judge_sheet(rt, &lift, &mut desk, &[&[0], &[1], &[2]])?;
+    println!(rt, "The lift count, its sheet edited after every growing:")?;
+    edit_while_growing(rt, &lift, &[&[0], &[1], &[2], &[3]])?;
     let withheld = Withheld {
         below: lift,
         marks: JobSet::of(&[3]),
     };
     println!(rt, "The lift count with job 3 withheld:")?;
     show_task(rt, &withheld)?;
-    show_sheet(rt, &withheld, &four)
+    let mut desk = Desk::open(&withheld)?;
+    grow_until_told(rt, &withheld, &mut desk)?;
+    judge_sheet(rt, &withheld, &mut desk, &[&[0], &[1], &[2], &[3]])
 }
 
 fn main(rt: LibcRuntime) -> Result<(), AnyError> {

@@ -1,4 +1,5 @@
-//! How sets are shown to a person.
+//! How sets and distances are shown to a person.
+use planning::report::Distance;
 use sets::facts::FactSet;
 use sets::jobs::JobSet;
 use sets::members::MembersIterator;
@@ -44,5 +45,19 @@ pub impl fmt::Display for Round as RoundDisplay {
             first = false;
         }
         write!(f, "]")
+    }
+}
+
+/// What is told of the distance, as `4`, `none` or `at least 4`.
+#[derive(Clone, Copy)]
+pub struct Shown(pub Distance);
+
+pub impl fmt::Display for Shown as ShownDisplay {
+    fn fmt<W: fmt::Write>(&self, f: &mut fmt::Formatter<W>) -> fmt::Result {
+        match self.0 {
+            Distance::Told(distance) => write!(f, "{distance}"),
+            Distance::NoPlan => write!(f, "none"),
+            Distance::AtLeast(rounds) => write!(f, "at least {rounds}"),
+        }
     }
 }

@@ -1,17 +1,18 @@
 -- The laws of `has` and `set-of`.
 use mathlib.Core.Path.{_≡_, refl, sym, ap, ap₂, _∙_}
-use mathlib.Core.Bool.{Bool, true, false, _&&_, cond}
+use mathlib.Core.Bool.{Bool, true, false, _&&_, and-true, cond}
 use mathlib.Core.Logic.{inl, inr}
 use Prim.Native.Nat.{ℕ, _+_, _-_, _%_, _^_, _≤_, _<_}
 use native.Mathlib.Omega.{arith}
 use lib.Dec.{eqb, ltb}
 use lib.Count.{trailingZeros}
-use Rattle.std.proofs.shelf.Tests.{cases-lt, lt-ltb, le-ltb, cond-true, cond-false, both-ways, and-parts}
+use Rattle.std.proofs.shelf.Tests.{cases-lt, lt-ltb, le-ltb, cond-true, cond-false, both-ways, and-parts, cases-bool}
 use Rattle.std.proofs.shelf.Ways.{tells}
 use Rattle.sets.specs.declared.facts.FactSet.{FactSet}
-use Rattle.sets.specs.Digits.{bit}
+use Rattle.sets.specs.Digits.{bit, word}
 use Rattle.sets.specs.Facts.{has, set-of}
-use Rattle.sets.specs.Search.{Lowest}
+use Rattle.sets.specs.Search.{any, Lowest}
+use Rattle.sets.proofs.SearchLaws.{decides-any}
 use Rattle.sets.proofs.DigitLaws.{bit-zero, bit-pow, bit-mod, bit-word, word-lt, same-digits, none-set, before-trailing, at-trailing, trailing-below}
 
 -- the three ranges of a fact
@@ -81,6 +82,18 @@ none-high s h off =
     none-set 64 (s .high) h
     (λ k b. let e : 64 + k - 64 ≡ k = omega arith in rw e at (sym (has-high s (64 + k) (omega arith) (omega arith)) ∙ off (64 + k)))
 
+-- a set that isn't empty has a member
+pub some-member : (s : FactSet) → (((f : ℕ) → has s f ≡ false) → ⊥) → (f : ℕ) × (has s f ≡ true)
+some-member s ne =
+    elim (cases-bool (any 128 (has s))) [
+      | inl y ↦ let (f, b, h) = decides-any 128 (has s) .0 y in (f, h)
+      | inr n ↦
+          absurd (ne (λ f. elim (cases-bool (has s f)) [
+            | inl h ↦ absurd (both-ways (any 128 (has s)) n (decides-any 128 (has s) .1 (f, has-below s f h, h)))
+            | inr h ↦ h
+          ]))
+    ]
+
 -- the lowest member, by trailing zeros
 pub lowest-low : (s : FactSet) → s .low < 2 ^ 64 → (s .low ≡ 0 → ⊥) → Lowest (λ f. has s f ≡ true) (trailingZeros 64 (s .low))
 lowest-low s h ne =
@@ -115,6 +128,11 @@ has-set-of p f =
         | inr u ↦ has-past (set-of p) f u ∙ sym (ap (λ (b : Bool). b && p f) (le-ltb f 128 u))
       ]
     ]
+
+-- the set of every fact
+pub all-words : (f : ℕ) → has (record { low = 2 ^ 64 - 1; high = 2 ^ 64 - 1 }) f ≡ ltb f 128
+unfolding set-of word
+all-words f = has-set-of (λ _. true) f ∙ and-true (ltb f 128)
 
 pub in-set-of : (p : ℕ → Bool) (f : ℕ) → has (set-of p) f ≡ true → p f ≡ true
 in-set-of p f h = and-parts (ltb f 128) (p f) (sym (has-set-of p f) ∙ h) .1

@@ -3,3 +3,4 @@ pub mod Search
 pub mod Facts
 pub mod Jobs
 pub mod Members
+pub mod Walk

@@ -22,6 +22,16 @@ impl FactSet {
         FactSet { low: 0, high: 0 }
     }
 
+    /// Every fact there can be, from 0 to 127.
+    pub fn full() -> FactSet
+        ensures { λ r. ⌜ ((f : ℕ) → has r f ≡ ltb f 128) ⌝ }
+    {
+        FactSet {
+            low: u64::MAX,
+            high: u64::MAX,
+        }
+    }
+
     /// The set of the one fact `fact`; from 128 up that is no fact, and the set is empty.
     pub fn single(fact: u8) -> FactSet
         ensures { λ r. ⌜ ((f : ℕ) → has r f ≡ (eqb f fact && ltb f 128)) ⌝ }

@@ -6,3 +6,4 @@
 pub mod facts;
 pub mod jobs;
 pub mod members;
+pub mod walk;

@@ -1,10 +1,10 @@
 -- Interference as a test.
-use mathlib.Core.Path.{_≡_, sym, _∙_}
+use mathlib.Core.Path.{_≡_, refl, sym, ap, _∙_}
 use mathlib.Core.Bool.{Bool, true, false, not, _&&_, _||_, or-comm}
 use mathlib.Core.Logic.{_⊎_, inl, inr}
 use Prim.Native.Nat.{ℕ}
 use Rattle.std.specs.Orderings.{Decides}
-use Rattle.std.proofs.shelf.Tests.{and-parts, and-from, or-cases, or-left, or-right, both-ways, cases-bool, not-from-true, not-from-false}
+use Rattle.std.proofs.shelf.Tests.{and-parts, and-from, or-cases, or-left, or-right, both-ways, cases-bool, not-true, not-from-true, not-from-false}
 use Rattle.std.proofs.shelf.Ways.{decides-or, decides-not}
 use Rattle.sets.specs.declared.facts.FactSet.{FactSet}
 use Rattle.sets.specs.Facts.{has}
@@ -12,7 +12,7 @@ use Rattle.sets.proofs.FactLaws.{has-below}
 use Rattle.sets.proofs.SearchLaws.{decides-any}
 use Rattle.strips.specs.declared.job.Job.{Job}
 use Rattle.strips.specs.Jobs.{Spoils, Interferes, spoils, interferes}
-use Rattle.strips.specs.Rules.{apart}
+use Rattle.strips.specs.Rules.{Lawful, apart, single-file}
 
 in-either : (x y : Bool) → (x ≡ true) ⊎ (y ≡ true) → (x || y) ≡ true
 in-either x y (inl e) = or-left x y e
@@ -60,3 +60,12 @@ not-disjoint a b x r is d =
 
 pub decides-apart : (a b : Job) → Decides (apart a b) (Interferes a b → ⊥)
 decides-apart a b = decides-not (interferes a b) (decides-interferes a b)
+
+pub apart-lawful : Lawful apart
+apart-lawful = record {
+  symmetric = λ a b. ap not (interferes-swap a b);
+  harmless = λ a b e w. both-ways (interferes a b) (not-true (interferes a b) e) (decides-interferes a b .1 w);
+}
+
+pub single-file-lawful : Lawful single-file
+single-file-lawful = record { symmetric = λ a b. refl; harmless = λ a b e w. both-ways false refl e }

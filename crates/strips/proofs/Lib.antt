@@ -1,4 +1,4 @@
-mod JobLaws
+pub mod JobLaws
 pub mod Linear
 mod LoadedLaws
 mod MemberLaws

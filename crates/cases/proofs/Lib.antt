@@ -1,0 +1,5 @@
+mod Tests
+mod Makes
+mod Tables
+mod Sheets
+mod WorkedCases

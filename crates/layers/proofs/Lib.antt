@@ -1,0 +1,6 @@
+pub mod PairLaws
+pub mod LayerLaws
+pub mod PlansReach
+pub mod Decisions
+mod Counts
+pub mod Settling

@@ -1,0 +1,4 @@
+mod SheetLaws
+mod Invariant
+mod Judgements
+mod ListsOfCalls
