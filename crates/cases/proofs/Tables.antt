@@ -1,15 +1,14 @@
 -- A table of first layers that passes a test gives the layers, and with them distances and entries.
 use mathlib.Core.Path.{_≡_, refl, sym, subst, _∙_}
 use mathlib.Core.Bool.{Bool, true, false, not, _&&_, _||_, Bool·beq}
-use mathlib.Core.Logic.{_⊎_, inl, inr}
-use Prim.Native.Nat.{ℕ, zero, suc, _≤_, _<_, min}
+use mathlib.Core.Logic.{inl, inr}
+use Prim.Native.Nat.{ℕ, zero, suc, _≤_, _<_}
 use native.Mathlib.Omega.{arith}
 use lib.Dec.{leb, ltb}
 use Rattle.std.specs.Orderings.{Decides}
-use Rattle.std.proofs.shelf.Tests.{both-ways, cases-lt, cases-eq, and-parts, and-from, or-cases, or-left, or-right, not-true, not-from-false, ltb-true}
-use Rattle.std.proofs.shelf.Ways.{decides-and}
+use Rattle.std.proofs.shelf.Tests.{both-ways, cases-eq, and-parts, and-from, or-cases, or-left, or-right, not-true, ltb-true}
 use Rattle.sets.specs.Facts.{has}
-use Rattle.sets.specs.Search.{any, Lowest}
+use Rattle.sets.specs.Search.{any}
 use Rattle.sets.proofs.SearchLaws.{decides-any}
 use Rattle.strips.specs.Tasks.{Meaning, Admitted}
 use Rattle.strips.specs.Rules.{Says, Lawful}
@@ -19,7 +18,6 @@ use Rattle.layers.specs.Bounds.{Settles}
 use Rattle.layers.proofs.LayerLaws.{enters-more, enters-swap, layer-below, stable-all}
 use Rattle.reach.specs.Tables.{Table, entry}
 use Rattle.reach.proofs.MadeLaws.{enters-if-made, made-if-enters}
-use Rattle.planning.specs.Main.{Entry-after}
 use Rattle.cases.proofs.Tests.{every, every-passes, decides-true, As, reached?, decides-reached}
 use Rattle.cases.proofs.Makes.{made?, dec-made}
 

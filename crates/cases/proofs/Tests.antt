@@ -1,26 +1,25 @@
 -- Tests that compute, each with what it decides.
-use mathlib.Core.Path.{_≡_, refl, sym, subst, _∙_}
+use mathlib.Core.Path.{_≡_, refl, subst}
 use mathlib.Core.Bool.{Bool, true, false, not, _&&_, _||_}
 use mathlib.Core.List.{List, [], _∷_}
-use mathlib.Core.Logic.{_⊎_, inl, inr}
 use Prim.Native.Nat.{ℕ, zero, suc, _≤_, _<_}
 use native.Mathlib.Omega.{arith}
-use lib.Dec.{eqb, ltb, leb}
-use lib.ListN.{length, getD}
+use lib.Dec.{ltb}
+use lib.ListN.{length}
 use Rattle.std.specs.Finite.{nth}
 use Rattle.std.specs.Orderings.{Decides}
 use Rattle.std.specs.declared.option.Option.{Option}
 use Rattle.std.specs.declared.option.Option.the-variants.{Some, None}
 use Rattle.std.proofs.shelf.Maps.{nth-past}
-use Rattle.std.proofs.shelf.Tests.{both-ways, cases-bool, and-parts, and-from, or-cases, or-left, or-right, not-true, not-from-false, eqb-true, ltb-true, leb-true}
-use Rattle.std.proofs.shelf.Ways.{decides-below-and, decides-not, decides-and, decides-ltb, decides-or}
+use Rattle.std.proofs.shelf.Tests.{both-ways, and-parts, and-from, not-true, not-from-false}
+use Rattle.std.proofs.shelf.Ways.{decides-below-and, decides-ltb}
 use Rattle.sets.specs.declared.facts.FactSet.{FactSet}
 use Rattle.sets.specs.Facts.{has}
-use Rattle.sets.specs.Search.{any, listed, Lowest}
+use Rattle.sets.specs.Search.{any, Lowest}
 use Rattle.sets.proofs.FactLaws.{has-below}
 use Rattle.sets.proofs.SearchLaws.{decides-any}
 use Rattle.strips.specs.declared.job.Job.{Job}
-use Rattle.strips.specs.Tasks.{Meaning, Admitted, Fair, Below}
+use Rattle.strips.specs.Tasks.{Admitted, Fair, Below}
 use Rattle.layers.specs.Layers.{Pairs, Reached}
 use Rattle.cases.specs.Counts.{facts, counting}
 

@@ -1,7 +1,7 @@
 -- The worked cases, by computing.
 use mathlib.Core.Path.{_≡_, refl}
 use mathlib.Core.Bool.{true}
-use mathlib.Core.List.{List, [], _∷_}
+use mathlib.Core.List.{[], _∷_}
 use mathlib.Core.Logic.{inl, inr}
 use Prim.Native.Nat.{ℕ, _≤_}
 use lib.Dec.{lit≤}
@@ -22,7 +22,7 @@ use Rattle.planning.specs.declared.report.Distance.the-variants.{Told, NoPlan, 
 use Rattle.verdicts.specs.declared.verdict.Verdict.the-variants.{Closed, Clash, Missing, Goal, Sound}
 use Rattle.verdicts.specs.Judging.{Judged}
 use Rattle.cases.specs.Counts.{lift-jobs, lift, lift-without-3, lift-from-1-4, twin-jobs, twin, sheet}
-use Rattle.cases.specs.WorkedCases.{After, Entry, Worked-cases}
+use Rattle.cases.specs.WorkedCases.{After, Settled-after, Entry, Worked-cases}
 use Rattle.cases.proofs.Tests.{admitted-is}
 use Rattle.cases.proofs.Tables.{settles?, settles, distance, not-reached, first-at, never-at}
 use Rattle.cases.proofs.Sheets.{verdict-is}
@@ -102,40 +102,40 @@ twin-single-settles : Settles twin single-file 2
 twin-single-settles = settles twin single-file twin-single-table twin-admitted single-file-lawful 2 twin-single-tested (soon-4 2 (lit≤ tt))
 
 -- what is told of the distance
-lift-told : After lift apart 5 (Told 4)
+lift-told : Settled-after lift apart 5 (Told 4)
 unfolding has bit any entry-number pair-count
-lift-told = (4, lift-settles, (distance lift apart lift-table lift-admitted apart-lawful 4 lift-tested 4 (lit≤ tt) refl, lit≤ tt))
+lift-told = (4, lift-settles, lit≤ tt, (distance lift apart lift-table lift-admitted apart-lawful 4 lift-tested 4 (lit≤ tt) refl, lit≤ tt))
 
 lift-told-3 : After lift apart 3 (AtLeast 4)
 unfolding has bit any entry-number pair-count
 lift-told-3 = (4, lift-settles, (not-reached lift apart lift-table lift-admitted apart-lawful 4 lift-tested 3 (lit≤ tt) refl, lit≤ tt, refl))
 
-without-3-told : After lift-without-3 apart 4 NoPlan
+without-3-told : Settled-after lift-without-3 apart 4 NoPlan
 unfolding has bit any entry-number pair-count
 without-3-told =
-    (3, without-3-settles, (not-reached lift-without-3 apart without-3-table without-3-admitted apart-lawful 3 without-3-tested 3 (lit≤ tt) refl, lit≤ tt))
+    (3, without-3-settles, lit≤ tt, (not-reached lift-without-3 apart without-3-table without-3-admitted apart-lawful 3 without-3-tested 3 (lit≤ tt) refl, lit≤ tt))
 
-from-1-4-told : After lift-from-1-4 apart 2 (Told 1)
+from-1-4-told : Settled-after lift-from-1-4 apart 2 (Told 1)
 unfolding has bit any entry-number pair-count
-from-1-4-told = (1, from-1-4-settles, (distance lift-from-1-4 apart from-1-4-table from-1-4-admitted apart-lawful 1 from-1-4-tested 1 (lit≤ tt) refl, lit≤ tt))
+from-1-4-told = (1, from-1-4-settles, lit≤ tt, (distance lift-from-1-4 apart from-1-4-table from-1-4-admitted apart-lawful 1 from-1-4-tested 1 (lit≤ tt) refl, lit≤ tt))
 
-twin-told : After twin apart 2 (Told 1)
+twin-told : Settled-after twin apart 2 (Told 1)
 unfolding has bit any entry-number pair-count
-twin-told = (1, twin-settles, (distance twin apart twin-table twin-admitted apart-lawful 1 twin-tested 1 (lit≤ tt) refl, lit≤ tt))
+twin-told = (1, twin-settles, lit≤ tt, (distance twin apart twin-table twin-admitted apart-lawful 1 twin-tested 1 (lit≤ tt) refl, lit≤ tt))
 
-twin-single-told : After twin single-file 3 (Told 2)
+twin-single-told : Settled-after twin single-file 3 (Told 2)
 unfolding has bit any entry-number pair-count
 twin-single-told =
-    (2, twin-single-settles, (distance twin single-file twin-single-table twin-admitted single-file-lawful 2 twin-single-tested 2 (lit≤ tt) refl, lit≤ tt))
+    (2, twin-single-settles, lit≤ tt, (distance twin single-file twin-single-table twin-admitted single-file-lawful 2 twin-single-tested 2 (lit≤ tt) refl, lit≤ tt))
 
 -- entries of the lift
 entry-7 : (entry-number 1 3 ≡ 7) × Entry lift apart 5 1 3 2
 unfolding entry-number pair-count
-entry-7 = (refl, (4, lift-settles, inl (first-at lift apart lift-table lift-admitted apart-lawful 4 lift-tested 1 3 2 (lit≤ tt) refl, lit≤ tt)))
+entry-7 = (refl, (4, lift-settles, lit≤ tt, inl (first-at lift apart lift-table lift-admitted apart-lawful 4 lift-tested 1 3 2 (lit≤ tt) refl, lit≤ tt)))
 
 entry-8 : (entry-number 2 3 ≡ 8) × Entry lift apart 5 2 3 65535
 unfolding entry-number pair-count
-entry-8 = (refl, (4, lift-settles, inr (never-at lift apart lift-table lift-admitted apart-lawful 4 lift-tested 2 3 4 (lit≤ tt) refl, refl)))
+entry-8 = (refl, (4, lift-settles, lit≤ tt, inr (never-at lift apart lift-table lift-admitted apart-lawful 4 lift-tested 2 3 4 (lit≤ tt) refl, refl)))
 
 -- verdicts
 lift-sound : Judged lift apart (sheet ((0 ∷ []) ∷ (1 ∷ []) ∷ (2 ∷ []) ∷ (3 ∷ []) ∷ [])) Sound

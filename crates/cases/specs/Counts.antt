@@ -13,7 +13,6 @@ use mathlib.Core.List.{List, [], _∷_, map}
 use lib.ListN.{length}
 use Rattle.std.specs.Finite.{nth}
 use Rattle.sets.specs.declared.facts.FactSet.{FactSet}
-use Rattle.sets.specs.declared.jobs.JobSet.{JobSet}
 use Rattle.sets.specs.Search.{listed}
 use Rattle.strips.specs.declared.job.Job.{Job}
 use Rattle.strips.specs.Layering.{withheld, moved}

@@ -1,8 +1,8 @@
 -- The entries of pairs: exact, within the table, no two alike.
 use mathlib.Core.Path.{_≡_, refl, sym, ap, _∙_}
 use mathlib.Core.Logic.{inl, inr}
-use Prim.Native.Nat.{ℕ, zero, suc, _+_, _-_, _*_, _/_, _<_, _≤_, min, max}
-use native.Mathlib.Nat.{add-mul-div-right, mul-add, add-mul, mul-comm, max-comm, min-comm, max-eq-left, max-eq-right, min-eq-left, min-eq-right}
+use Prim.Native.Nat.{ℕ, zero, suc, _+_, _-_, _*_, _<_, _≤_}
+use native.Mathlib.Nat.{mul-add, mul-comm, max-comm, min-comm, max-eq-left, max-eq-right, min-eq-left, min-eq-right}
 use native.Mathlib.Numerals.{add-one}
 use native.Mathlib.Decide.{le-ind}
 use native.Mathlib.Omega.{arith}

@@ -1,5 +1,5 @@
 -- Each layer that differs from its next has fewer pairs, so one of the first n(n+1)/2 + 1 doesn't.
-use mathlib.Core.Path.{_≡_, sym, subst}
+use mathlib.Core.Path.{sym, subst}
 use mathlib.Core.Logic.{_⊎_, inl, inr, Dec·and, Dec·not}
 use Prim.Native.Nat.{ℕ, zero, suc, _≤_, _<_}
 use native.Mathlib.Omega.{arith}

@@ -47,7 +47,7 @@ fn show_report(rt: &LibcRuntime, report: &Report) -> Result<(), AnyError> {
     let distance = Shown(report.distance);
     println!(
         rt,
-        "{rounds} rounds, verdict {verdict}, distance {distance}"
+        "rounds {rounds}, verdict {verdict}, distance {distance}"
     )?;
     if let Some(excess) = report.excess {
         println!(rt, "excess {excess}")?;

@@ -6,25 +6,24 @@ use mathlib.Core.Logic.{_⊎_, inl, inr}
 use Prim.Native.Nat.{ℕ, suc, _+_, _-_, _≤_, _<_, min}
 use native.Mathlib.Omega.{arith}
 use native.Mathlib.Numerals.{add-one}
-use lib.Dec.{ltb}
 use lib.ListN.{length, set, length-set}
 use Rattle.std.specs.declared.result.Result.{Result}
 use Rattle.std.specs.declared.result.Result.the-variants.{Ok}
 use Rattle.std.proofs.shelf.Tests.{both-ways, cases-lt, cases-eq, cases-bool, ltb-true, and-parts, and-from, and-left, and-right, cond-true, cond-false}
 use Rattle.sets.specs.declared.jobs.JobSet.{JobSet}
 use Rattle.sets.specs.Facts.{has}
-use Rattle.sets.specs.Search.{Lowest, listed}
+use Rattle.sets.specs.Search.{listed}
 use Rattle.strips.specs.Tasks.{Meaning, Admitted}
 use Rattle.strips.specs.Rules.{Says}
 use Rattle.strips.specs.Rounds.{Round}
 use Rattle.verdicts.specs.Sheets.{rounds-of}
 use Rattle.layers.specs.Pairs.{pair-count}
-use Rattle.layers.specs.Layers.{Layer, Stable, Enters}
+use Rattle.layers.specs.Layers.{Layer, Stable}
 use Rattle.layers.specs.Bounds.{Settles}
 use Rattle.layers.proofs.PairLaws.{pair-count-few}
 use Rattle.layers.proofs.LayerLaws.{enters-more, layer-up, layer-below}
 use Rattle.layers.proofs.Decisions.{dec-layer}
-use Rattle.reach.specs.Tables.{Table, Room, Reads, entry, New, Next-layer, Layer-zero}
+use Rattle.reach.specs.Tables.{Table, Room, Reads, entry, New}
 use Rattle.planning.specs.declared.book.Book.{Book}
 use Rattle.planning.specs.declared.refusal.Refusal.{Refusal}
 use Rattle.planning.specs.Calls.{Fits, Opened, Grew, misfit, no-more, settles, rises, Dropped, no-round, one-less}

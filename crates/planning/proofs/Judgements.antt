@@ -3,13 +3,13 @@ use mathlib.Core.Path.{_≡_, refl, sym, _∙_, ap, subst}
 use mathlib.Core.Bool.{true}
 use mathlib.Core.List.{List}
 use mathlib.Core.Logic.{_⊎_, inl, inr}
-use Prim.Native.Nat.{ℕ, suc, _≤_, _<_, min}
+use Prim.Native.Nat.{ℕ, _≤_, _<_, min}
 use native.Mathlib.Omega.{arith}
 use Rattle.std.proofs.shelf.Signed.{ints}
 use lib.IntN.{ℤ, pos, _-ℤ_}
 use lib.ListN.{length}
 use Rattle.std.specs.declared.option.Option.{Option}
-use Rattle.std.specs.declared.option.Option.the-variants.{Some, None}
+use Rattle.std.specs.declared.option.Option.the-variants.{Some}
 use Rattle.std.specs.declared.result.Result.{Result}
 use Rattle.std.specs.declared.result.Result.the-variants.{Ok, Err}
 use Rattle.std.proofs.shelf.Tests.{both-ways, cases-lt}
@@ -25,13 +25,13 @@ use Rattle.layers.specs.Layers.{First, Goal-at}
 use Rattle.layers.specs.Bounds.{Settles}
 use Rattle.layers.proofs.LayerLaws.{layer-up, goal-up}
 use Rattle.layers.proofs.PlansReach.{plans-reach}
-use Rattle.reach.specs.Tables.{Table, entry, Goal-read, Largest}
+use Rattle.reach.specs.Tables.{Table, entry, Goal-read}
 use Rattle.planning.specs.declared.book.Book.{Book}
 use Rattle.planning.specs.declared.refusal.Refusal.{Refusal}
 use Rattle.planning.specs.declared.report.Distance.{Distance}
 use Rattle.planning.specs.declared.report.Distance.the-variants.{Told, NoPlan, AtLeast}
 use Rattle.planning.specs.declared.report.Report.{Report}
-use Rattle.planning.specs.Reports.{excess-of, Shortest}
+use Rattle.planning.specs.Reports.{excess-of}
 use Rattle.planning.specs.Calls.{Told-by, Judging}
 use Rattle.planning.specs.Main.{Bounds, Told-after, Decided, Judged-well}
 use Rattle.planning.proofs.Invariant.{Inv, read-layer, layer-read, fits, held, length-is}

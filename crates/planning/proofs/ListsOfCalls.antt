@@ -1,9 +1,8 @@
 -- The theorem on lists of calls.
 use mathlib.Core.Path.{_≡_, refl, sym, _∙_, ap, subst}
-use mathlib.Core.Bool.{Bool, true}
 use mathlib.Core.List.{List, [], _∷_}
-use mathlib.Core.Logic.{_⊎_, inl, inr}
-use Prim.Native.Nat.{ℕ, zero, suc, _+_, _-_, _≤_, _<_, min}
+use mathlib.Core.Logic.{inl, inr}
+use Prim.Native.Nat.{ℕ, _-_, _≤_, _<_, min}
 use native.Mathlib.Omega.{arith}
 use lib.ListN.{length, getD}
 use Rattle.std.specs.declared.result.Result.{Result}
@@ -13,8 +12,6 @@ use Rattle.sets.specs.declared.jobs.JobSet.{JobSet}
 use Rattle.strips.specs.Tasks.{Meaning, Admitted}
 use Rattle.strips.specs.Rules.{Says, Lawful}
 use Rattle.strips.proofs.PartLaws.{same-tests}
-use Rattle.layers.specs.Pairs.{pair-count, entry-number}
-use Rattle.layers.specs.Layers.{Goal-at}
 use Rattle.layers.specs.Bounds.{Settles}
 use Rattle.layers.proofs.PairLaws.{entry-number-onto}
 use Rattle.layers.proofs.LayerLaws.{layer-up, goal-up}
@@ -30,6 +27,7 @@ use Rattle.planning.specs.Runs.{World, Call, grow, add, drop, judge, Step, Run
 use Rattle.planning.specs.Main.{Told-after, Entry-after, Worked, Alike, Stories, Lists-of-calls, Holds-of-runs}
 use Rattle.planning.proofs.Invariant.{Inv, moved, grown, added, dropped, first-inv}
 use Rattle.planning.proofs.Judgements.{judged-well}
+use Rattle.planning.proofs.SheetLaws.{rounds-length}
 
 module _ (T : Meaning) (R : Says) (ok : Admitted T) (law : Lawful R) (L : ℕ) (last : Settles T R L) (places : ℕ) where
   abbrev Kept : List Call → World → Type 0
@@ -58,6 +56,10 @@ module _ (T : Meaning) (R : Says) (ok : Admitted T) (law : Lawful R) (L : ℕ) (
           (λ lt. elim (inv .settled) [ inl (y, _) ↦ y | inr (_, le) ↦ absurd (omega arith) ]),
         );
         entries = λ p q lp lq. subst (λ (t : ℕ). Entry-after T R t p q (entry (w .table) p q)) (inv .layer) (inv .cells p q lp lq);
+        places = inv .all-places;
+        rounds =
+            let held : w .book .rounds ≤ length (w .sheet) = (let a = inv .used in let b = inv .all-places in omega arith) in
+            sym (rounds-length (T .m) (w .book .rounds) (w .sheet) held) ∙ ap length (inv .sheet);
         sheet = inv .sheet;
         judged = judged-well T R ok law L last places (growings cs) (sheet-of (T .m) places cs) (w .book) (w .table) (w .sheet) inv;
       }

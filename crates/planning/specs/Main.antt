@@ -71,6 +71,8 @@ pub record Worked (T : Meaning) (R : Says) (L k : ℕ) (cs : List Call) (w : Wor
   pub layer : w .book .t ≡ min (growings cs) L
   pub settled : (w .book .settled ≡ true) ↔ (L < growings cs)
   pub entries : (p q : ℕ) → p < T .n → q < T .n → Entry-after T R (min (growings cs) L) p q (entry (w .table) p q)
+  pub places : length (w .sheet) ≡ k
+  pub rounds : w .book .rounds ≡ length (sheet-of (T .m) k cs)
   pub sheet : rounds-of (T .m) (w .book .rounds) (w .sheet) ≡ sheet-of (T .m) k cs
   pub judged : (r : Result Report Refusal) → Judging T R (w .book) (w .table) (w .sheet) r
       → (rep : Report) × (r ≡ Ok rep) × Judged-well T R L (growings cs) (sheet-of (T .m) k cs) rep

@@ -4,7 +4,8 @@ ghost use Rattle.std.specs.Orderings.{Decides};
 ghost use mathlib.Core.Path.{_≡_};
 use verdicts::verdict::Verdict;
 
-/// What the table tells of the distance: how few rounds any plan can take.
+/// What a table tells of the distance. What that says of plans is said for a table that was opened and
+/// grown for the task, under the rule, that is judged.
 #[derive(Clone, Copy)]
 pub enum Distance {
     /// The distance: no plan has fewer rounds.

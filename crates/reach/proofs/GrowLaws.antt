@@ -4,7 +4,7 @@ use mathlib.Core.Bool.{Bool, true, false}
 use mathlib.Core.Logic.{_⊎_, inl, inr}
 use Prim.Native.Nat.{ℕ, _+_, _≤_, _<_}
 use native.Mathlib.Omega.{arith}
-use lib.ListN.{length, getD}
+use lib.ListN.{getD}
 use Rattle.std.specs.Orderings.{Decides}
 use Rattle.std.specs.declared.result.Result.the-variants.{Ok}
 use Rattle.std.proofs.shelf.Lists.{same-lists, getD-default}
@@ -12,7 +12,6 @@ use Rattle.std.proofs.shelf.Tests.{both-ways, cases-bool, cases-lt}
 use Rattle.strips.specs.Tasks.{Meaning, Admitted}
 use Rattle.strips.specs.Rules.{Says, Lawful}
 use Rattle.layers.specs.Pairs.{pair-count, entry-number}
-use Rattle.layers.specs.Layers.{Enters}
 use Rattle.layers.proofs.PairLaws.{entry-number-swap, entry-number-below}
 use Rattle.layers.proofs.LayerLaws.{enters-more, enters-swap, enters-below}
 use Rattle.reach.specs.declared.pair_set.PairSet.{PairSet}

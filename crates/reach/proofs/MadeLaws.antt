@@ -1,9 +1,9 @@
 -- The pairs that ready jobs make, one job after the other; and that these are the pairs that enter.
 use mathlib.Core.Path.{_≡_, refl, sym, ap, subst, _∙_}
-use mathlib.Core.Bool.{Bool, true, false, not, _&&_, _||_}
+use mathlib.Core.Bool.{true, false, not, _&&_, _||_}
 use mathlib.Core.List.{List}
 use mathlib.Core.Logic.{_⊎_, inl, inr, _≢_}
-use Prim.Native.Nat.{ℕ, _+_, _≤_, _<_}
+use Prim.Native.Nat.{ℕ, _+_, _<_}
 use native.Mathlib.Omega.{arith}
 use lib.Dec.{ltb}
 use lib.ListN.{getD}
@@ -45,7 +45,7 @@ module _ (T : Meaning) (R : Says) (ok : Admitted T) (s : PairSet) (rs : List (Op
   -- the facts found beside a ready job
   module _ (j : ℕ) (lt : j < T .m) (own : Ready) (is : getD rs j None ≡ Some own) (base facts : FactSet) (q : ℕ)
       (based : has base q ≡ (has (own .job .adds) q || ((has (own .common) q && has singles q) && not (has (own .job .deletes) q))))
-      (found : Decides (has facts q) ((has base q ≡ true) ⊎ Helps R rs (own .job) (own .common) (j + 1) (T .m) q)) where
+      (found : Decides (has facts q) ((has base q ≡ true) ⊎ Helps R rs own (j + 1) (T .m) q)) where
     beside-found : has facts q ≡ true → Beside T R (In s) j (own .job) q
     beside-found e =
         let (job-is, reached, common) = present-at j lt own is in
@@ -61,8 +61,8 @@ module _ (T : Meaning) (R : Says) (ok : Admitted T) (s : PairSet) (rs : List (Op
               ]
           | inr h ↦
               let (other-is, other-reached, _) = present-at (h .number) (h .below) (h .other) (h .is) in
-              joined (h .number) (h .other .job) (let le = h .from in omega arith) other-is (h .shares) (h .adds-it)
-              (joint-reached s (own .job) (own .common) common reached turn (h .other .job) other-reached (h .within))
+              joined (h .number) (h .other .job) (let le = h .from in omega arith) other-is (h .joins .shares) (h .adds-it)
+              (joint-reached s (own .job) (own .common) common reached turn (h .other .job) other-reached (h .joins .within))
         ]
 
     beside-made : Beside T R (In s) j (own .job) q → has facts q ≡ true
@@ -84,9 +84,11 @@ module _ (T : Meaning) (R : Says) (ok : Admitted T) (s : PairSet) (rs : List (Op
           below = present-below T ok k b k-is;
           other = r;
           is = r-is;
-          within = subst (λ (x : Job). (f : ℕ) → has (x .needs) f ≡ true → has (own .common) f ≡ true) (sym same)
-              (joint-within s (own .job) (own .common) common b joint);
-          shares = subst (λ (x : Job). R (own .job) x ≡ true) (sym same) shares;
+          joins = record {
+            within = subst (λ (x : Job). (f : ℕ) → has (x .needs) f ≡ true → has (own .common) f ≡ true) (sym same)
+                (joint-within s (own .job) (own .common) common b joint);
+            shares = subst (λ (x : Job). R (own .job) x ≡ true) (sym same) shares;
+          };
           adds-it = subst (λ (x : Job). has (x .adds) q ≡ true) (sym same) adds;
         })
 
@@ -97,7 +99,7 @@ module _ (T : Meaning) (R : Says) (ok : Admitted T) (s : PairSet) (rs : List (Op
 
     pub made-more : (own : Ready) (base facts : FactSet) (made′ : PairSet) → getD rs j None ≡ Some own
         → ((q : ℕ) → has base q ≡ (has (own .job .adds) q || ((has (own .common) q && has singles q) && not (has (own .job .deletes) q))))
-        → ((q : ℕ) → Decides (has facts q) ((has base q ≡ true) ⊎ Helps R rs (own .job) (own .common) (j + 1) (T .m) q))
+        → ((q : ℕ) → Decides (has facts q) ((has base q ≡ true) ⊎ Helps R rs own (j + 1) (T .m) q))
         → ((p q : ℕ) → paired made′ p q ≡ (paired made p q || (has (own .job .adds) p && has facts q)))
         → (p q : ℕ) → Decides (paired made′ p q) (Made-below T R (In s) (j + 1) p q)
     made-more own base facts made′ is based found joins p q =

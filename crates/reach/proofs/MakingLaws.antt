@@ -1,43 +1,28 @@
 -- Ready jobs, and the facts that may hold beside their adds.
 use mathlib.Core.Path.{_≡_, refl, sym, ap, subst, _∙_}
-use mathlib.Core.Bool.{Bool, true, false, not, _&&_, _||_}
+use mathlib.Core.Bool.{true, _||_}
 use mathlib.Core.List.{List}
 use mathlib.Core.Logic.{_⊎_, inl, inr}
 use Prim.Native.Nat.{ℕ, _+_, _≤_, _<_}
 use native.Mathlib.Omega.{arith}
-use lib.Dec.{ltb}
 use lib.ListN.{length, getD, set, replicate, length-set}
 use lib.Seq.{getD-set-same, getD-set-other}
 use Rattle.std.specs.Orderings.{Decides}
 use Rattle.std.specs.declared.option.Option.{Option}
 use Rattle.std.specs.declared.option.Option.the-variants.{Some, None}
 use Rattle.std.proofs.shelf.Lists.{length-replicate, getD-replicate, getD-past}
-use Rattle.std.proofs.shelf.Tests.{cases-lt, both-ways, cases-eq, or-cases, or-left, or-right, and-parts, and-from, not-true, not-from-false, ltb-true, lt-ltb}
+use Rattle.std.proofs.shelf.Tests.{cases-lt, cases-eq, or-cases, or-left, or-right}
 use Rattle.sets.specs.declared.facts.FactSet.{FactSet}
 use Rattle.sets.specs.Facts.{has}
 use Rattle.sets.proofs.FactLaws.{has-below}
 use Rattle.strips.specs.declared.job.Job.{Job}
-use Rattle.strips.specs.Tasks.{Meaning, Admitted}
+use Rattle.strips.specs.Tasks.{Meaning}
 use Rattle.strips.specs.Rules.{Says}
-use Rattle.strips.proofs.PartLaws.{present-below}
 use Rattle.layers.specs.Layers.{Reached}
 use Rattle.reach.specs.declared.pair_set.PairSet.{PairSet}
 use Rattle.reach.specs.declared.ready.Ready.{Ready}
 use Rattle.reach.specs.PairSets.{paired}
-use Rattle.reach.specs.Makings.{
-  In,
-  Common,
-  Needs-reached,
-  Readied,
-  Ready-at,
-  Ready-jobs,
-  Helps,
-  Beside,
-  added,
-  kept,
-  joined,
-  Made,
-}
+use Rattle.reach.specs.Makings.{In, Common, Needs-reached, Readied, Ready-at, Joins, Helps}
 
 -- the needs of a job are reached exactly if they are among the facts common to them
 module _ (s : PairSet) (a : Job) (c : FactSet) (law : Common s (a .needs) c) where
@@ -71,26 +56,25 @@ module _ (s : PairSet) (a : Job) (c : FactSet) (law : Common s (a .needs) c) whe
   kept-within q lt joint = law q .1 (lt, λ p np. joint p q (inl np) (inr refl))
 
 -- one number more is looked at, and its job helps, or not
-module _ (R : Says) (rs : List (Option Ready)) (a : Job) (c : FactSet) (j k q : ℕ) (P : Type 0) (facts : FactSet)
-    (so-far : Decides (has facts q) (P ⊎ Helps R rs a c j k q)) where
-  up : Helps R rs a c j k q → Helps R rs a c j (k + 1) q
+module _ (R : Says) (rs : List (Option Ready)) (own : Ready) (j k q : ℕ) (P : Type 0) (facts : FactSet)
+    (so-far : Decides (has facts q) (P ⊎ Helps R rs own j k q)) where
+  up : Helps R rs own j k q → Helps R rs own j (k + 1) q
   up h = record {
     number = h .number;
     from = h .from;
     below = let lt = h .below in omega arith;
     other = h .other;
     is = h .is;
-    within = h .within;
-    shares = h .shares;
+    joins = h .joins;
     adds-it = h .adds-it;
   }
 
-  wide : P ⊎ Helps R rs a c j k q → P ⊎ Helps R rs a c j (k + 1) q
+  wide : P ⊎ Helps R rs own j k q → P ⊎ Helps R rs own j (k + 1) q
   wide (inl p) = inl p
   wide (inr h) = inr (up h)
 
   -- what helps does so below k, or has number k
-  split : (h : Helps R rs a c j (k + 1) q) → Helps R rs a c j k q ⊎ (getD rs k None ≡ Some (h .other))
+  split : (h : Helps R rs own j (k + 1) q) → Helps R rs own j k q ⊎ (getD rs k None ≡ Some (h .other))
   split h =
       elim (cases-eq (h .number) k) [
         | inl e ↦ inr (subst (λ (i : ℕ). getD rs i None ≡ Some (h .other)) e (h .is))
@@ -101,19 +85,17 @@ module _ (R : Says) (rs : List (Option Ready)) (a : Job) (c : FactSet) (j k q : 
               below = let lt = h .below in omega arith;
               other = h .other;
               is = h .is;
-              within = h .within;
-              shares = h .shares;
+              joins = h .joins;
               adds-it = h .adds-it;
             }
       ]
 
-  pub helps-more : (other : Ready) (facts′ : FactSet) → j ≤ k → getD rs k None ≡ Some other
-      → ((f : ℕ) → has (other .job .needs) f ≡ true → has c f ≡ true) → R a (other .job) ≡ true
-      → has facts′ q ≡ (has facts q || has (other .job .adds) q) → Decides (has facts′ q) (P ⊎ Helps R rs a c j (k + 1) q)
-  helps-more other facts′ le is within shares law = (
+  pub helps-more : (other : Ready) (facts′ : FactSet) → j ≤ k → getD rs k None ≡ Some other → Joins R own other
+      → has facts′ q ≡ (has facts q || has (other .job .adds) q) → Decides (has facts′ q) (P ⊎ Helps R rs own j (k + 1) q)
+  helps-more other facts′ le is joins law = (
     (λ e. elim (or-cases _ _ (sym law ∙ e)) [
       | inl o ↦ wide (so-far .0 o)
-      | inr adds ↦ inr record { number = k; from = le; below = omega arith; other = other; is = is; within = within; shares = shares; adds-it = adds }
+      | inr adds ↦ inr record { number = k; from = le; below = omega arith; other = other; is = is; joins = joins; adds-it = adds }
     ]),
     (λ w. law ∙ elim w [
       | inl p ↦ or-left _ _ (so-far .1 (inl p))
@@ -127,8 +109,8 @@ module _ (R : Says) (rs : List (Option Ready)) (a : Job) (c : FactSet) (j k q : 
     ]),
   )
 
-  pub helps-same : ((other : Ready) → getD rs k None ≡ Some other → ((f : ℕ) → has (other .job .needs) f ≡ true → has c f ≡ true)
-      → R a (other .job) ≡ true → ⊥) → Decides (has facts q) (P ⊎ Helps R rs a c j (k + 1) q)
+  pub helps-same : ((other : Ready) → getD rs k None ≡ Some other → Joins R own other → ⊥)
+      → Decides (has facts q) (P ⊎ Helps R rs own j (k + 1) q)
   helps-same never = (
     (λ e. wide (so-far .0 e)),
     (λ w. elim w [
@@ -136,17 +118,10 @@ module _ (R : Says) (rs : List (Option Ready)) (a : Job) (c : FactSet) (j k q : 
       | inr h ↦
           elim (split h) [
             | inl before ↦ so-far .1 (inr before)
-            | inr here ↦ absurd (never (h .other) here (h .within) (h .shares))
+            | inr here ↦ absurd (never (h .other) here (h .joins))
           ]
     ]),
   )
-
-pub helps-none : (R : Says) (rs : List (Option Ready)) (a : Job) (c : FactSet) (j q : ℕ) (with : FactSet)
-    → Decides (has with q) ((has with q ≡ true) ⊎ Helps R rs a c j j q)
-helps-none R rs a c j q with = (
-  (λ e. inl e),
-  (λ w. elim w [ inl e ↦ e | inr h ↦ absurd (let le = h .from in let lt = h .below in omega arith) ]),
-)
 
 -- the job numbers below j have been looked at, and those from j up not yet
 pub record Looked (T : Meaning) (s : PairSet) (rs : List (Option Ready)) (j : ℕ) : Type 0 where

@@ -22,7 +22,7 @@ use Rattle.sets.proofs.WalkLaws.{Begun, Met, met-none, met-more, met-before, me
 use Rattle.layers.specs.Pairs.{pair-count, entry-number}
 use Rattle.layers.proofs.PairLaws.{entry-number-swap, entry-number-within}
 use Rattle.reach.specs.declared.pair_set.PairSet.{PairSet}
-use Rattle.reach.specs.PairSets.{row, paired, Told}
+use Rattle.reach.specs.PairSets.{row, paired, Read-below}
 use Rattle.reach.specs.Tables.{Table, entry, Reads}
 use Rattle.reach.proofs.EntryLaws.{entry-number-alike}
 
@@ -74,12 +74,12 @@ not-both x y p q off =
 
 -- the pairs told by the first entries of a table
 module _ (s : PairSet) (t : ℕ) (tb : Table) where
-  pub told-none : ((p q : ℕ) → paired s p q ≡ false) → Told s t tb 0
+  pub told-none : ((p q : ℕ) → paired s p q ≡ false) → Read-below s t tb 0
   told-none off p q = off p q ∙ sym (ap (λ (b : Bool). b && leb (entry tb p q) t) (le-ltb (entry-number p q) 0 (omega arith)))
 
-  module _ (p q e : ℕ) (at : e ≡ entry-number p q) (old : Told s t tb e) where
+  module _ (p q e : ℕ) (at : e ≡ entry-number p q) (old : Read-below s t tb e) where
     pub told-more : (u : PairSet) → getD tb e 0 ≤ t
-        → ((x y : ℕ) → paired u x y ≡ ((paired s x y || (eqb x p && eqb y q)) || (eqb x q && eqb y p))) → Told u t tb (e + 1)
+        → ((x y : ℕ) → paired u x y ≡ ((paired s x y || (eqb x p && eqb y q)) || (eqb x q && eqb y p))) → Read-below u t tb (e + 1)
     told-more u got law x y =
         let o = old x y in
         let l = law x y in
@@ -98,7 +98,7 @@ module _ (s : PairSet) (t : ℕ) (tb : Table) where
         same : {a b : ℕ} → x ≡ a → y ≡ b → entry-number x y ≡ entry-number a b
         same i j = ap (λ (k : ℕ). entry-number k y) i ∙ ap (entry-number _) j
 
-    pub told-skip : t < getD tb e 0 → Told s t tb (e + 1)
+    pub told-skip : t < getD tb e 0 → Read-below s t tb (e + 1)
     told-skip far x y =
         let o = old x y in
         elim (cases-eq (entry-number x y) e) [
@@ -107,7 +107,7 @@ module _ (s : PairSet) (t : ℕ) (tb : Table) where
         ]
 
   -- with every entry of n facts told
-  pub told-all : (n : ℕ) → Told s t tb (pair-count n) → (p q : ℕ) → Decides (paired s p q) (Reads n t tb p q)
+  pub told-all : (n : ℕ) → Read-below s t tb (pair-count n) → (p q : ℕ) → Decides (paired s p q) (Reads n t tb p q)
   told-all n all p q = (
     λ h.
         let w = and-parts _ _ (sym (all p q) ∙ h) in

@@ -6,12 +6,13 @@
 --                         them; or it isn't, and o has nothing
 --   Ready-jobs T s rs     the same for each job number below m: number j of the list has job j, if it is
 --                         present and ready
---   Helps R rs a c j k q  a ready job, from number j up and below k, adds q, may share a round with job a,
---                         and needs only facts of the set c
+--   Joins R x y           the rule lets the ready jobs x and y share a round, and what y needs is common to
+--                         the needs of x
+--   Helps R rs x j k q    a ready job that joins x, from number j up and below k, adds q
 --   Beside T R L j a q    q may hold after a round in which job a, number j, is done: the job adds it; or it
 --                         is kept; or a job of a higher number that may share the round adds it
 --   Made T R L p q        a ready job adds p, and q may hold beside it
-use Prim.Native.Nat.{ℕ, _+_, _≤_, _<_}
+use Prim.Native.Nat.{ℕ, _≤_, _<_}
 use mathlib.Core.Bool.{true, false}
 use mathlib.Core.List.{List}
 use mathlib.Core.Logic.{_⊎_}
@@ -50,14 +51,17 @@ Ready-at T s j None = (a : Job) → T .job j ≡ Some a → Needs-reached (In s)
 abbrev pub Ready-jobs : Meaning → PairSet → List (Option Ready) → Type 0
 Ready-jobs T s rs = (j : ℕ) → j < T .m → Ready-at T s j (getD rs j None)
 
-pub record Helps (R : Says) (rs : List (Option Ready)) (a : Job) (c : FactSet) (j k q : ℕ) : Type 0 where
+pub record Joins (R : Says) (x y : Ready) : Type 0 where
+  pub within : (f : ℕ) → has (y .job .needs) f ≡ true → has (x .common) f ≡ true
+  pub shares : R (x .job) (y .job) ≡ true
+
+pub record Helps (R : Says) (rs : List (Option Ready)) (x : Ready) (j k q : ℕ) : Type 0 where
   pub number : ℕ
   pub from : j ≤ number
   pub below : number < k
   pub other : Ready
   pub is : getD rs number None ≡ Some other
-  pub within : (f : ℕ) → has (other .job .needs) f ≡ true → has c f ≡ true
-  pub shares : R a (other .job) ≡ true
+  pub joins : Joins R x other
   pub adds-it : has (other .job .adds) q ≡ true
 
 pub data Beside (T : Meaning) (R : Says) (L : Pairs) (j : ℕ) (a : Job) (q : ℕ) : Type 0 where

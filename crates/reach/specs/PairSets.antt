@@ -2,7 +2,7 @@
 --
 --   row s p            the facts that p is paired with
 --   paired s p q       p is paired with q
---   Told s t tb e      the pairs of s are those among the first e entries of the table that are reached
+--   Read-below s t tb e      the pairs of s are those among the first e entries of the table that are reached
 --                      in it read as layer t, in both orders
 --   Wrote-row p s v tb tb′    v was written to the entries of p with the facts of s and to no others
 --   Fresh made reached n p q    p is below n, and paired with q in the first set but not in the second
@@ -25,8 +25,8 @@ row s p = getD (s .rows) p (record { low = 0; high = 0 })
 abbrev pub paired : PairSet → ℕ → ℕ → Bool
 paired s p q = has (row s p) q
 
-abbrev pub Told : PairSet → ℕ → Table → ℕ → Type 0
-Told s t tb e = (p q : ℕ) → paired s p q ≡ (ltb (entry-number p q) e && leb (entry tb p q) t)
+abbrev pub Read-below : PairSet → ℕ → Table → ℕ → Type 0
+Read-below s t tb e = (p q : ℕ) → paired s p q ≡ (ltb (entry-number p q) e && leb (entry tb p q) t)
 
 pub record Wrote-row (p : ℕ) (s : FactSet) (v : ℕ) (tb tb′ : Table) : Type 0 where
   pub written : (q : ℕ) → has s q ≡ true → entry tb′ p q ≡ v

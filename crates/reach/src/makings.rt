@@ -1,11 +1,10 @@
 //! The pairs of facts that may hold after one more round.
 ghost use Prim.Native.Nat.{ℕ, _≤_, _<_};
-ghost use Rattle.reach.specs.Makings.{In, Ready-jobs, Helps, Made};
+ghost use Rattle.reach.specs.Makings.{In, Ready-jobs, Joins, Helps, Made};
 ghost use Rattle.reach.specs.PairSets.{paired};
 ghost use Rattle.sets.specs.Facts.{has};
 ghost use Rattle.std.specs.Orderings.{Decides};
-ghost use lib.Dec.{ltb};
-ghost use mathlib.Core.Bool.{true, _&&_};
+ghost use mathlib.Core.Bool.{true, not, _&&_, _||_};
 ghost use mathlib.Core.Logic.{_⊎_};
 ghost use mathlib.Core.Path.{_≡_};
 use crate::pair_set::PairSet;
@@ -14,6 +13,23 @@ use crate::ready::Ready;
 use sets::facts::FactSet;
 use strips::rule::Rule;
 use strips::task::Task;
+
+/// Whether the ready job `other` may be done beside `own`: the rule lets the two share a round, and their
+/// needs are reached together.
+fn may_join<R: Rule>(rule: &R, own: &Ready, other: &Ready) -> bool
+    ensures { λ r. ⌜ Decides r (Joins (R·Rule .shares (now (rule .entry))) (now (own .entry)) (now (other .entry))) ⌝ }
+{
+    other.job.needs.is_subset(own.common) && rule.may_share(&own.job, &other.job)
+}
+
+/// The adds of the ready job `own`, and the facts of `single` that can be kept beside it: they are reached
+/// together with its needs, and it doesn't delete them.
+fn added_or_kept(own: &Ready, single: FactSet) -> FactSet
+    ensures { λ r. ⌜ ((q : ℕ) → has r q ≡ (has (now (own .entry) .job .adds) q || ((has (now (own .entry) .common) q && has single q) && not (has (now (own .entry) .job .deletes) q)))) ⌝ }
+{
+    let kept = own.common.meet(single).minus(own.job.deletes);
+    own.job.adds.union(kept)
+}
 
 /// The facts of `with`, and the adds of each ready job, from number `from` up and below `m`, that may
 /// share a round with the job `own` and whose needs are reached together with its own.
@@ -26,12 +42,12 @@ fn with_others<R: Rule>(
     with: FactSet,
 ) -> FactSet
     requires { ⌜ from ≤ m ⌝ ∗ ⌜ m ≤ 255 ⌝ }
-    ensures { λ r. ⌜ ((q : ℕ) → Decides (has r q) ((has with q ≡ true) ⊎ Helps (R·Rule .shares (now (rule .entry))) (now (ready .entry)) (now (own .entry) .job) (now (own .entry) .common) from m q)) ⌝ }
+    ensures { λ r. ⌜ ((q : ℕ) → Decides (has r q) ((has with q ≡ true) ⊎ Helps (R·Rule .shares (now (rule .entry))) (now (ready .entry)) (now (own .entry)) from m q)) ⌝ }
 {
     let mut facts = with;
     for k in from..m {
         if let Some(other) = &ready[k as usize] {
-            if other.job.needs.is_subset(own.common) && rule.may_share(&own.job, &other.job) {
+            if may_join(rule, own, other) {
                 facts = facts.union(other.job.adds);
             }
         }
@@ -53,12 +69,10 @@ pub(crate) fn pairs_made<S: Task, R: Rule>(
 {
     let mut made = PairSet::empty();
     let m = task.m();
-    let kept = reached.singles(task.n());
+    let single = reached.singles(task.n());
     for j in 0..m {
         if let Some(own) = &ready[j as usize] {
-            let beside = own.job
-                .adds
-                .union(own.common.meet(kept).minus(own.job.deletes));
+            let beside = added_or_kept(own, single);
             made.join(
                 own.job.adds,
                 with_others(rule, ready, own, j + 1, m, beside),

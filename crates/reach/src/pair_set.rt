@@ -1,7 +1,7 @@
 //! Sets of pairs of facts, as rows of bit sets.
 ghost use Prim.Native.Nat.{ℕ, _+_, _≤_, _<_};
 ghost use Rattle.layers.specs.Pairs.{pair-count};
-ghost use Rattle.reach.specs.PairSets.{row, paired, Told};
+ghost use Rattle.reach.specs.PairSets.{row, paired, Read-below};
 ghost use Rattle.reach.specs.Tables.{Room, Reads};
 ghost use Rattle.sets.specs.Facts.{has};
 ghost use Rattle.std.specs.Orderings.{Decides};
@@ -50,8 +50,8 @@ impl PairSet {
     fn read_pairs_of(&mut self, table: &[u16], q: u8, t: u16)
         requires fact { ⌜ q < 128 ⌝ }
         requires room { ⌜ Room (q + 1) (now table) ⌝ }
-        requires below { ⌜ Told (now self) t (now table) (pair-count q) ⌝ }
-        ensures { λ _. ⌜ Told (now (self .exit)) t (now (table .entry)) (pair-count (q + 1)) ⌝ }
+        requires below { ⌜ Read-below (now self) t (now table) (pair-count q) ⌝ }
+        ensures { λ _. ⌜ Read-below (now (self .exit)) t (now (table .entry)) (pair-count (q + 1)) ⌝ }
     {
         let first = pair_count(q);
         for p in 0..q + 1 {

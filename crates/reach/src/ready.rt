@@ -1,5 +1,4 @@
 //! The jobs that are ready at a layer: present, and with their needs reached.
-ghost use Prim.Native.Nat.{_≤_};
 ghost use Rattle.reach.specs.Makings.{Readied, Ready-jobs};
 use crate::pair_set::PairSet;
 use sets::facts::FactSet;

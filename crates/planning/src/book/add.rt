@@ -1,5 +1,4 @@
 //! Adding a round to a sheet.
-ghost use Prim.Native.Nat.{ℕ};
 ghost use Rattle.planning.specs.Adding.{Added, Checked};
 use crate::book::Book;
 use crate::refusal::Cause;

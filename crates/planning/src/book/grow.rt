@@ -13,7 +13,7 @@ impl Book {
     /// With the book at layer t, an entry up to t counts as reached, a larger one not, whatever the table
     /// holds. Each pair of the task's facts that isn't reached and enters behind that layer gets t + 1 as
     /// its entry, and the book is at layer t + 1; all other entries are as they were. If there is no such
-    /// pair, or t is n(n+1)/2, nothing is written and the book is settled.
+    /// pair, or t is n(n+1)/2 or more (no opened book has more), nothing is written and the book is settled.
     ///
     /// Refused, and nothing changes: 9, place 0, if there are fewer entries than n(n+1)/2 or the task's `n`
     /// or `m` isn't the book's; else 13, place 0, if the book is settled.

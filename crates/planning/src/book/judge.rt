@@ -63,9 +63,15 @@ impl Book {
     /// Refused with 9, place 0, if there are fewer entries than n(n+1)/2, fewer places than rounds, or the
     /// task's `n` or `m` isn't the book's.
     ///
-    /// Where the book, the table and the sheet come from an opening of this task and any list of calls under
-    /// this rule, what is answered is true of all plans: a distance told is the distance, and no plan has
-    /// fewer rounds; none means that there is no plan; no plan has fewer rounds than an "at least".
+    /// Where the book, the table and the sheet come from an accepted opening of this task and any list of
+    /// growings under this rule, addings, droppings and judgings after it, judging is not refused, and what
+    /// it answers is true of the task: a distance told is the distance, and no plan has fewer rounds; none
+    /// means that there is no plan; no plan has fewer rounds than an "at least"; after more than n(n+1)/2
+    /// growings a distance or none is told. The sheet is the one that the list of calls gives; it is sound
+    /// exactly if it is a plan, and then every order in which its jobs may come back is permitted job by job
+    /// and ends in one state, which holds the goal; if it is called shortest, no plan has fewer rounds. The
+    /// number of growings alone decides the layer, whether the book is settled, the entries and what is told
+    /// of the distance.
     pub fn judge<S: Task, R: Rule>(
         &self,
         task: &S,

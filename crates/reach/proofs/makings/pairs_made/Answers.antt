@@ -1,5 +1,5 @@
 use mathlib.Core.Path.{_≡_, ap, subst, _∙_}
-use mathlib.Core.Bool.{Bool, true, not, _&&_, _||_}
+use mathlib.Core.Bool.{true, _&&_}
 use mathlib.Core.Logic.{_⊎_}
 use Prim.Native.Nat.{ℕ, _+_}
 use native.Mathlib.Omega.{arith}
@@ -24,19 +24,17 @@ loop-j-again g c =
     let ok = g .S·Task .admitted (c .args .task .now) in
     let s = c .args .reached .now in
     let rs = c .args .ready .now in
-    let singles = c .singles-kept .result in
+    let singles = c .singles-single .result in
     let alone : (f : ℕ) → has singles f ≡ (ltb f (T .n) && paired s f f) =
-    λ f. c .singles-kept .ensures f ∙ ap (λ (n : ℕ). ltb f n && paired s f f) (c .n .ensures) in
+    λ f. c .singles-single .ensures f ∙ ap (λ (n : ℕ). ltb f n && paired s f f) (c .n .ensures) in
     elim (c .match-ready-j .came) [
       | in-Some w ↦
-          let a = w .in-Some .own .job in
-          let common = w .in-Some .own .common in
           rw (w .made-is)
           (made-more T R ok s rs (c .pre .ready) (c .pre .symmetric) singles alone (c .loop-j .j) (omega arith) (c .loop-j .made) (c .loop-j .inv)
-          (w .in-Some .own) (w .union-beside .result) (w .with-others .result) (w .join .last .self) (w .in-Some .is)
-          (λ q. w .union-beside .ensures q ∙ ap (λ (b : Bool). has (a .adds) q || b)
-          (w .minus .ensures q ∙ ap (λ (b : Bool). b && not (has (a .deletes) q)) (w .meet .ensures q)))
-          (λ q. subst (λ (m : ℕ). Decides (has (w .with-others .result) q) ((has (w .union-beside .result) q ≡ true) ⊎ Helps R rs a common (c .loop-j .j + 1) m q))
+          (w .in-Some .own) (w .added-or-kept-beside .result) (w .with-others .result) (w .join .last .self) (w .in-Some .is)
+          (w .added-or-kept-beside .ensures)
+          (λ q. subst (λ (m : ℕ). Decides (has (w .with-others .result) q)
+          ((has (w .added-or-kept-beside .result) q ≡ true) ⊎ Helps R rs (w .in-Some .own) (c .loop-j .j + 1) m q))
           (c .m-m .ensures) (w .with-others .ensures q))
           (w .join .ensures))
       | in-rest w ↦

@@ -10,4 +10,4 @@ use Rattle.reach.proofs.makings.with_others.Given as given
 abbrev pub Inv-loop-k : given.InvT-loop-k
 Inv-loop-k g l =
     (q : ℕ) → Decides (has (l .facts) q) ((has (l .entry .facts) q ≡ true)
-    ⊎ Helps (g .R·Rule .shares (l .rule)) (l .ready) (l .own .job) (l .own .common) (l .from) (l .k) q)
+    ⊎ Helps (g .R·Rule .shares (l .rule)) (l .ready) (l .own) (l .from) (l .k) q)

@@ -3,7 +3,7 @@ use Prim.Native.Nat.{ℕ, _+_}
 use native.Mathlib.Omega.{arith}
 use Rattle.layers.specs.Pairs.{pair-count}
 use Rattle.layers.proofs.PairLaws.{pair-count-le}
-use Rattle.reach.specs.PairSets.{Told}
+use Rattle.reach.specs.PairSets.{Read-below}
 use Rattle.reach.proofs.PairSetLaws.{told-none, told-all}
 use Rattle.reach.proofs.pair_set.PairSet.reached.Needs as need
 
@@ -18,4 +18,4 @@ pub returns : need.returns
 returns c =
     let e : c .loop-q .q ≡ c .args .n = omega arith in
     told-all (c .loop-q .reached) (c .args .t) (c .args .table .now) (c .args .n)
-    (subst (λ (k : ℕ). Told (c .loop-q .reached) (c .args .t) (c .args .table .now) (pair-count k)) e (c .loop-q .inv))
+    (subst (λ (k : ℕ). Read-below (c .loop-q .reached) (c .args .t) (c .args .table .now) (pair-count k)) e (c .loop-q .inv))
