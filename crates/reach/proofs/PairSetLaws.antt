@@ -72,15 +72,15 @@ not-both x y p q off =
       | inr ne ↦ and-left (eqb x p) (eqb y q) (ne-eqb x p ne)
     ]
 
--- the pairs told by the first entries of a table
+-- the pairs read from the first entries of a table
 module _ (s : PairSet) (t : ℕ) (tb : Table) where
-  pub told-none : ((p q : ℕ) → paired s p q ≡ false) → Read-below s t tb 0
-  told-none off p q = off p q ∙ sym (ap (λ (b : Bool). b && leb (entry tb p q) t) (le-ltb (entry-number p q) 0 (omega arith)))
+  pub read-none : ((p q : ℕ) → paired s p q ≡ false) → Read-below s t tb 0
+  read-none off p q = off p q ∙ sym (ap (λ (b : Bool). b && leb (entry tb p q) t) (le-ltb (entry-number p q) 0 (omega arith)))
 
   module _ (p q e : ℕ) (at : e ≡ entry-number p q) (old : Read-below s t tb e) where
-    pub told-more : (u : PairSet) → getD tb e 0 ≤ t
+    pub read-more : (u : PairSet) → getD tb e 0 ≤ t
         → ((x y : ℕ) → paired u x y ≡ ((paired s x y || (eqb x p && eqb y q)) || (eqb x q && eqb y p))) → Read-below u t tb (e + 1)
-    told-more u got law x y =
+    read-more u got law x y =
         let o = old x y in
         let l = law x y in
         let here = entry-number-swap p q in
@@ -98,17 +98,17 @@ module _ (s : PairSet) (t : ℕ) (tb : Table) where
         same : {a b : ℕ} → x ≡ a → y ≡ b → entry-number x y ≡ entry-number a b
         same i j = ap (λ (k : ℕ). entry-number k y) i ∙ ap (entry-number _) j
 
-    pub told-skip : t < getD tb e 0 → Read-below s t tb (e + 1)
-    told-skip far x y =
+    pub read-skip : t < getD tb e 0 → Read-below s t tb (e + 1)
+    read-skip far x y =
         let o = old x y in
         elim (cases-eq (entry-number x y) e) [
           | inl h ↦ let g : entry tb x y ≡ getD tb e 0 = ap (λ (k : ℕ). getD tb k 0) h in grind (arith, tells)
           | inr ne ↦ grind (arith, tells)
         ]
 
-  -- with every entry of n facts told
-  pub told-all : (n : ℕ) → Read-below s t tb (pair-count n) → (p q : ℕ) → Decides (paired s p q) (Reads n t tb p q)
-  told-all n all p q = (
+  -- with every entry of n facts read
+  pub read-all : (n : ℕ) → Read-below s t tb (pair-count n) → (p q : ℕ) → Decides (paired s p q) (Reads n t tb p q)
+  read-all n all p q = (
     λ h.
         let w = and-parts _ _ (sym (all p q) ∙ h) in
         let b = entry-number-within p q n .0 (ltb-true _ _ (w .0)) in

@@ -5,7 +5,7 @@ use Rattle.layers.specs.Pairs.{pair-count, entry-number}
 use Rattle.layers.proofs.PairLaws.{pair-count-more, entry-number-up}
 use Rattle.reach.specs.PairSets.{Read-below}
 use Rattle.reach.proofs.EntryLaws.{pair-count-small}
-use Rattle.reach.proofs.PairSetLaws.{told-more, told-skip}
+use Rattle.reach.proofs.PairSetLaws.{read-more, read-skip}
 use Rattle.reach.proofs.pair_set.PairSet.read_pairs_of.Needs as need
 use Rattle.reach.proofs.pair_set.PairSet.read_pairs_of.Needs.{then-table-first, else-table-first}
 
@@ -32,11 +32,11 @@ loop-p-again c =
     (elim (c .if-table-first .came) [
       | then-table-first w ↦
           rw (w .self-is)
-          (told-more (c .loop-p .self) (c .args .t) (c .args .table .now) (c .loop-p .p) (c .args .q) (first + c .loop-p .p) at (c .loop-p .inv)
+          (read-more (c .loop-p .self) (c .args .t) (c .args .table .now) (c .loop-p .p) (c .args .q) (first + c .loop-p .p) at (c .loop-p .inv)
           (w .pair .last .self) (rw (c .pair-count-first .ensures) at (w .if-table-first .taken)) (w .pair .ensures))
       | else-table-first w ↦
           rw (w .self-is)
-          (told-skip (c .loop-p .self) (c .args .t) (c .args .table .now) (c .loop-p .p) (c .args .q) (first + c .loop-p .p) at (c .loop-p .inv)
+          (read-skip (c .loop-p .self) (c .args .t) (c .args .table .now) (c .loop-p .p) (c .args .q) (first + c .loop-p .p) at (c .loop-p .inv)
           (rw (c .pair-count-first .ensures) at (w .if-table-first .left)))
     ])
 
