@@ -5,7 +5,7 @@
 --   at-fault m js i      it is one or the other
 --   clean m js           no number of the list is at fault
 --   fault-number m js i  the number of the refusal for number i: 10 before 6
---   First-fault m js i   number i is the first of the list that is at fault
+--   First-at-fault m js i   number i is the first of the list that is at fault
 --   free places r        with r rounds in use, a place is free, and 500 aren't in use
 --   Checked m js r       what the check of the list answers
 --   Added b sh js r b′ sh′    adding
@@ -39,19 +39,19 @@ clean m js = not (any (length js) (at-fault m js))
 abbrev pub fault-number : ℕ → List ℕ → ℕ → ℕ
 fault-number m js i = cond (too-large m js i) 10 6
 
-abbrev pub First-fault : ℕ → List ℕ → ℕ → Type 0
-First-fault m js = Lowest (λ i. (i < length js) × (at-fault m js i ≡ true))
+abbrev pub First-at-fault : ℕ → List ℕ → ℕ → Type 0
+First-at-fault m js = Lowest (λ i. (i < length js) × (at-fault m js i ≡ true))
 
 abbrev pub free : ℕ → ℕ → Bool
 free places r = ltb r (min places 500)
 
 abbrev pub Checked : ℕ → List ℕ → Result Unit Refusal → Type 0
 Checked m js (Ok _) = clean m js ≡ true
-Checked m js (Err e) = First-fault m js (e .place) × (told e ≡ (fault-number m js (e .place), e .place))
+Checked m js (Err e) = First-at-fault m js (e .place) × (told e ≡ (fault-number m js (e .place), e .place))
 
 pub data Added (b : Book) (sh : List JobSet) (js : List ℕ) (r : Result Unit Refusal) (b′ : Book) (sh′ : List JobSet) : Type 0 where
   short : length sh < b .rounds → Refused 9 0 r → b′ ≡ b → sh′ ≡ sh → Added b sh js r b′ sh′
-  faulty : b .rounds ≤ length sh → (i : ℕ) → First-fault (b .m) js i → Refused (fault-number (b .m) js i) i r
+  faulty : b .rounds ≤ length sh → (i : ℕ) → First-at-fault (b .m) js i → Refused (fault-number (b .m) js i) i r
       → b′ ≡ b → sh′ ≡ sh → Added b sh js r b′ sh′
   full : b .rounds ≤ length sh → clean (b .m) js ≡ true → free (length sh) (b .rounds) ≡ false → Refused 11 0 r
       → b′ ≡ b → sh′ ≡ sh → Added b sh js r b′ sh′

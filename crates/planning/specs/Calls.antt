@@ -7,6 +7,7 @@
 --   Tells b o d               what a book tells of the distance, where o is the layer that its table gives
 --                             for the goal
 --   Told-by T b tb d          the distance that a book tells from its table
+--   Reported T R b tb sh rep  what judging answers where it isn't refused
 --   Judging T R b tb sh r     judging
 use Prim.Native.Nat.{ℕ, _+_, _-_, _≤_, _<_}
 use mathlib.Core.Bool.{true, false}

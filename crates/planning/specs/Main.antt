@@ -10,8 +10,9 @@
 --   Judged-well             what holds of an answer of judging, after g growings, on the rounds rs
 --   Worked T R L k cs w     what holds of a book with its table and its sheet of k places, after the calls cs
 --   Alike T R w w′          what two lists of calls with equal numbers of growings have in common
---   Lists-of-calls          so it is for every admitted task, every lawful rule, every accepted opening
---                           and every list of calls after it
+--   Stories T R             what holds of every accepted opening of one task and every list of calls after
+--                           it, under one rule
+--   Lists-of-calls          so it is for every admitted task and every lawful rule
 --   Holds-of-runs           the same for one task, rule, book, table and sheet and one answer of judging, for
 --                           all lists of calls that lead there
 use Prim.Native.Nat.{ℕ, suc, _≤_, _<_, min}

@@ -2,10 +2,11 @@
 --
 --   In s                  the pairs of the set s
 --   Common s x c          c has the facts that every fact of the set x is paired with
+--   Needs-reached L a     the needs of job a are reached at L
 --   Readied s a o         job a is ready, that is, its needs are reached, and o has it with what is common to
 --                         them; or it isn't, and o has nothing
---   Ready-jobs T s rs     the same for each job number below m: number j of the list has job j, if it is
---                         present and ready
+--   Ready-at T s j o      o has job j in this way, if it is present and ready
+--   Ready-jobs T s rs     number j of the list rs does, for each job number j below m
 --   Joins R x y           the rule lets the ready jobs x and y share a round, and what y needs is common to
 --                         the needs of x
 --   Helps R rs x j k q    a ready job that joins x, from number j up and below k, adds q
