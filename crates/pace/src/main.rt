@@ -1,6 +1,7 @@
 //! Pace opens a table for a large task of each of three kinds, grows it until it is settled, and
 //! prints how many layers that took and how many pairs are reached. A first argument names one kind to
 //! do alone; `opened` behind it leaves the growing out.
+#![tactic(auto)]
 mod draws;
 mod growth;
 mod kind;

@@ -1,5 +1,5 @@
 -- The laws of `bit` and `word`: what digit k of a number is.
-use Rattle.std.proofs.Common.{◌≡◌, ℕ, zero, suc, ◌+◌, ◌-◌, ◌*◌, ◌/◌, ◌%◌, ◌^◌, ◌<◌, ◌≤◌, Bool, true, false, cond, not, ◌&&◌, ◌||◌, eqb, ltb, sym, refl, ap, ◌∙◌, ap₂, inl, inr, suc-le-suc, le_of_suc-le-suc, mod-lt, mod-eq_of_lt, zero-lt-suc, pow-suc, div-one, mul-div_cancel, add-one, one-add, arith, lit<, shr-shr, shr_lt}
+use Rattle.std.proofs.Common.{◌≡◌, ℕ, zero, suc, ◌+◌, ◌*◌, ◌/◌, ◌%◌, ◌^◌, ◌<◌, ◌≤◌, Bool, true, false, cond, not, ◌&&◌, ◌||◌, eqb, ltb, sym, refl, ap, ◌∙◌, ap₂, inl, inr, suc-le-suc, le_of_suc-le-suc, mod-lt, mod-eq_of_lt, zero-lt-suc, pow-suc, div-one, mul-div_cancel, add-one, one-add, arith, lit<, shr-shr, shr_lt}
 use native.Mathlib.Nat.{zero-div, mul-mod_left, mod-one}
 use Rattle.std.proofs.lemmas.Bool.{eqb-false, cases_lt, le-ltb}
 use Rattle.std.proofs.lemmas.Bool.Decides.{nat_tests}

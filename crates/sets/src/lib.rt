@@ -3,6 +3,8 @@
 //! Both are a few 64-bit words, plain and `Copy`. Every promise here speaks of members alone, so a
 //! caller never needs to know how the words are laid out; only a sheet place, which callers hand over
 //! as four words, has its layout promised.
+#![tactic(auto)]
+
 pub mod facts;
 pub mod jobs;
 pub mod members;

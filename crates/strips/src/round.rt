@@ -1,6 +1,7 @@
 //! Rounds: sets of jobs that go out together.
 ghost use Rattle.sets.specs.Facts.{has};
-ghost use Rattle.strips.specs.Rounds.{round_of, result};
+ghost use Rattle.strips.specs.Rounds;
+ghost use Rattle.strips.specs.Rounds.{round_of};
 ghost use Rattle.std.specs.Prelude.{◌≡◌};
 
 use crate::task::Task;
@@ -10,7 +11,7 @@ use sets::jobs::JobSet;
 /// The state after the round at `place`: `state` with all adds of its jobs, then without all their
 /// deletes. Numbers of absent jobs, as those from `m` up, don't count.
 pub fn state_after<S: Task>(task: &S, state: FactSet, place: &JobSet) -> FactSet
-    ensures* { λ r. ⌜ has r ≡ result (S.Task.meaning task.now) (has state) (round_of (S.Task.meaning task.now).m place.now) ⌝ }
+    ensures { has result ≡ Rounds.result (S.Task.meaning task.now) (has state) (round_of (S.Task.meaning task.now).m place.now) }
 {
     let mut adds = FactSet::empty();
     let mut deletes = FactSet::empty();

@@ -8,8 +8,8 @@ use Rattle.reach.proofs.goal.goal_layer.Goals as goal
 
 pub loop-p-init : goal.loop-p-init
 loop-p-init g c =
-    so_far_none (λ p. LargestWith p c.goal-goal.result c.args.table.now) c.goal-goal.result c.into-iter-p-iterator.result
-    (c.into-iter-p-iterator.ensures.into-iter-gives ∙ c.walk-p-items.ensures)
+    so_far_none (λ p. LargestWith p c.goal-goal.result c.args.table.now) c.goal-goal.result c.into_iter-p-iterator.result
+    (c.into_iter-p-iterator.ensures.into_iter_gives ∙ c.walk-p-items.ensures)
 
 pub largest-with-entry-requires : goal.largest-with-entry-requires
 largest-with-entry-requires g c κs q there =

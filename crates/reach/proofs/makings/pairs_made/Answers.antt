@@ -4,7 +4,7 @@ use Rattle.reach.specs.PairSets.{paired}
 use Rattle.reach.specs.Makings.{Helps}
 use Rattle.reach.proofs.MadeLaws.{made_none, made_more, made_past, made_all}
 use Rattle.reach.proofs.makings.pairs_made.Goals as goal
-use Rattle.reach.proofs.makings.pairs_made.Goals.{in-Some, in-default}
+use Rattle.reach.proofs.makings.pairs_made.Goals.{in-Some, in_default}
 
 pub loop-j-init : goal.loop-j-init
 loop-j-init g c =
@@ -31,10 +31,10 @@ loop-j-preserved g c =
           ((has w.added-or-kept-beside.result q ≡ true) ⊎ Helps R rs w.in-Some.own (c.loop-j.j + 1) m q))
           c.m-m.ensures (w.with-others.ensures q))
           w.join.ensures)
-      | in-default w ↦
+      | in_default w ↦
           rw w.made-is
           (made_past T R ok s rs c.requires.ready c.requires.symmetric singles alone c.loop-j.j (omega arith) c.loop-j.made c.loop-j.invariant
-          w.in-default.is)
+          w.in_default.is)
     ]
 
 pub returns : goal.returns

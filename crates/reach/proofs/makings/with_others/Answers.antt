@@ -4,7 +4,7 @@ use Rattle.sets.specs.Facts.{has}
 use Rattle.reach.specs.Makings.{Joins}
 use Rattle.reach.proofs.MakingLaws.{helps_more, helps_same}
 use Rattle.reach.proofs.makings.with_others.Goals as goal
-use Rattle.reach.proofs.makings.with_others.Goals.{in-Some+then-may-join, in-Some+else-may-join, in-default}
+use Rattle.reach.proofs.makings.with_others.Goals.{in-Some+then-may-join, in-Some+else-may-join, in_default}
 
 pub loop-k-preserved : goal.loop-k-preserved
 loop-k-preserved g c q =
@@ -23,7 +23,7 @@ loop-k-preserved g c q =
           (same (λ other is joins.
           let it : w.in-Some.other ≡ other = (let x = w.in-Some.is in cc) in
           both_ways w.may-join.result w.if-may-join.false (w.may-join.ensures.1 (subst (Joins R own) (sym it) joins))))
-      | in-default w ↦
+      | in_default w ↦
           rw w.facts-is
-          (same (λ other is joins. let none = w.in-default.is in let z : ◌≡◌ {A = ℕ} 0 1 = cc in omega arith))
+          (same (λ other is joins. let none = w.in_default.is in let z : ◌≡◌ {A = ℕ} 0 1 = cc in omega arith))
     ]

@@ -9,8 +9,8 @@ use Rattle.reach.proofs.open.open_table.Goals as goal
 
 pub loop-p-init : goal.loop-p-init
 loop-p-init g c =
-    opened_none c.start-start.result c.clear.new.table c.into-iter-p-iterator.result
-    (c.into-iter-p-iterator.ensures.into-iter-gives ∙ c.walk-p-items.ensures)
+    opened_none c.start-start.result c.clear.new.table c.into_iter-p-iterator.result
+    (c.into_iter-p-iterator.ensures.into_iter_gives ∙ c.walk-p-items.ensures)
 
 pub write-row-requires : goal.write-row-requires
 write-row-requires g c κs q there =

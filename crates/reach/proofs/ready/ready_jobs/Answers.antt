@@ -1,7 +1,7 @@
 use Rattle.std.proofs.Common.{sym, arith}
 use Rattle.reach.proofs.MakingLaws.{looked_none, looked_more, looked_past}
 use Rattle.reach.proofs.ready.ready_jobs.Goals as goal
-use Rattle.reach.proofs.ready.ready_jobs.Goals.{in-Some, in-default}
+use Rattle.reach.proofs.ready.ready_jobs.Goals.{in-Some, in_default}
 
 pub loop-j-init : goal.loop-j-init
 loop-j-init g c = looked_none (g.S.Task.meaning c.args.task.now) c.args.reached.now
@@ -15,6 +15,6 @@ loop-j-preserved g c =
           rw w.ready-is
           (looked_more T s c.loop-j.ready c.loop-j.j c.loop-j.invariant w.in-Some.job w.ready-job.result
           (let few = (g.S.Task.admitted c.args.task.now).few_jobs in omega arith) (sym w.in-Some.ensures) w.ready-job.ensures)
-      | in-default w ↦
-          rw w.ready-is (looked_past T s c.loop-j.ready c.loop-j.j c.loop-j.invariant (sym w.in-default.ensures))
+      | in_default w ↦
+          rw w.ready-is (looked_past T s c.loop-j.ready c.loop-j.j c.loop-j.invariant (sym w.in_default.ensures))
     ]

@@ -10,7 +10,7 @@ use Rattle.reach.proofs.write.write_row.Goals as goal
 
 pub loop-q-init : goal.loop-q-init
 loop-q-init c =
-    let walk = c.into-iter-q-iterator.result in writing_none c.args.p walk.left c.args.v c.args.table.now walk refl
+    let walk = c.into_iter-q-iterator.result in writing_none c.args.p walk.left c.args.v c.args.table.now walk refl
 
 pub offset-bounds-table-entry-number : goal.offset-bounds-table-entry-number
 offset-bounds-table-entry-number c =
@@ -19,7 +19,7 @@ offset-bounds-table-entry-number c =
 
 inside : (c : goal.After-entry-number) → has c.args.set c.in-Some.q ≡ true
 inside c =
-    let is = walk_of c.into-iter-q-iterator.ensures.into-iter-gives c.walk-q-items.ensures in
+    let is = walk_of c.into_iter-q-iterator.ensures.into_iter_gives c.walk-q-items.ensures in
     rw is at (c.loop-q.invariant.begun c.in-Some.q c.in-Some.ensures.steps.0.0)
 
 pub bounds-table-entry-number : goal.bounds-table-entry-number
@@ -27,13 +27,13 @@ bounds-table-entry-number c = omega (arith, c.requires c.in-Some.q (inside c))
 
 pub loop-q-preserved : goal.loop-q-preserved
 loop-q-preserved c =
-    writing_more c.args.p c.into-iter-q-iterator.result.left c.args.v c.args.table.now c.loop-q.q-iterator c.loop-q.table
+    writing_more c.args.p c.into_iter-q-iterator.result.left c.args.v c.args.table.now c.loop-q.q-iterator c.loop-q.table
     c.loop-q.invariant c.next.new.self c.in-Some.q c.entry_number.result c.in-Some.ensures.steps c.entry_number.ensures
     (omega (arith, c.requires c.in-Some.q (inside c)))
 
 pub returns : goal.returns
 returns c =
-    let is = walk_of c.into-iter-q-iterator.ensures.into-iter-gives c.walk-q-items.ensures in
+    let is = walk_of c.into_iter-q-iterator.ensures.into_iter_gives c.walk-q-items.ensures in
     subst (λ (s : FactSet). WroteRow c.args.p s c.args.v c.args.table.now c.loop-q.table) is
-    (writing_all c.args.p c.into-iter-q-iterator.result.left c.args.v c.args.table.now c.loop-q.q-iterator c.loop-q.table
+    (writing_all c.args.p c.into_iter-q-iterator.result.left c.args.v c.args.table.now c.loop-q.q-iterator c.loop-q.table
     c.loop-q.invariant c.next.new.self c.in-None.ensures.steps)

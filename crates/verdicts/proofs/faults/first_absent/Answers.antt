@@ -8,7 +8,7 @@ pub loop-j-init : goal.loop-j-init
 loop-j-init g c =
     walk_starts (g.S.Task.meaning c.args.task.now) c.args.place.now
     (Absent (g.S.Task.meaning c.args.task.now) (round_of (g.S.Task.meaning c.args.task.now).m c.args.place.now))
-    c.into-iter-j-iterator.result c.m.result (c.into-iter-j-iterator.ensures.into-iter-gives ∙ c.below-j-items.ensures) c.m.ensures
+    c.into_iter-j-iterator.result c.m.result (c.into_iter-j-iterator.ensures.into_iter_gives ∙ c.below-j-items.ensures) c.m.ensures
 
 pub returns-then-is-none : goal.returns-then-is-none
 returns-then-is-none g c =

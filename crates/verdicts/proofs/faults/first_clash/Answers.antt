@@ -9,7 +9,7 @@ loop-j-init g c =
     walk_starts (g.S.Task.meaning c.args.task.now) c.args.place.now
     (Found (g.S.Task.meaning c.args.task.now) c.args.place.now
     (Partner (g.S.Task.meaning c.args.task.now) (g.R.Rule.shares c.args.rule.now) (round_of (g.S.Task.meaning c.args.task.now).m c.args.place.now)))
-    c.into-iter-j-iterator.result c.m.result (c.into-iter-j-iterator.ensures.into-iter-gives ∙ c.below-j-items.ensures) c.m.ensures
+    c.into_iter-j-iterator.result c.m.result (c.into_iter-j-iterator.ensures.into_iter_gives ∙ c.below-j-items.ensures) c.m.ensures
 
 pub returns-in-Some-first-partner : goal.returns-in-Some-first-partner
 returns-in-Some-first-partner g c =
@@ -18,18 +18,18 @@ returns-in-Some-first-partner g c =
     c.loop-j.j-iterator c.next.new.self c.in-Some.j c.loop-j.invariant c.in-Some-job.job c.in-Some-first-partner.k
     c.in-Some.ensures.steps c.in-Some-job.ensures c.in-Some-first-partner.ensures
 
-pub loop-j-preserved-in-default-first-partner : goal.loop-j-preserved-in-default-first-partner
-loop-j-preserved-in-default-first-partner g c =
+pub loop-j-preserved-in_default-first-partner : goal.loop-j-preserved-in_default-first-partner
+loop-j-preserved-in_default-first-partner g c =
     pair_free (g.S.Task.meaning c.args.task.now) c.args.place.now
     (Partner (g.S.Task.meaning c.args.task.now) (g.R.Rule.shares c.args.rule.now) (round_of (g.S.Task.meaning c.args.task.now).m c.args.place.now))
     c.loop-j.j-iterator c.next.new.self c.in-Some.j c.loop-j.invariant c.in-Some-job.job
-    c.in-Some.ensures.steps c.in-Some-job.ensures c.in-default-first-partner.ensures
+    c.in-Some.ensures.steps c.in-Some-job.ensures c.in_default-first-partner.ensures
 
 pub loop-j-preserved : goal.loop-j-preserved
 loop-j-preserved g c =
     pair_absent (g.S.Task.meaning c.args.task.now) c.args.place.now
     (Partner (g.S.Task.meaning c.args.task.now) (g.R.Rule.shares c.args.rule.now) (round_of (g.S.Task.meaning c.args.task.now).m c.args.place.now))
-    c.loop-j.j-iterator c.next.new.self c.in-Some.j c.loop-j.invariant c.in-Some.ensures.steps c.in-default.ensures
+    c.loop-j.j-iterator c.next.new.self c.in-Some.j c.loop-j.invariant c.in-Some.ensures.steps c.in_default.ensures
 
 pub returns : goal.returns
 returns g c =

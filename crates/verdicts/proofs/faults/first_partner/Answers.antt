@@ -5,8 +5,8 @@ use Rattle.verdicts.proofs.faults.first_partner.Goals as goal
 pub loop-k-init : goal.loop-k-init
 loop-k-init g c =
     partner_starts (g.S.Task.meaning c.args.task.now) (g.R.Rule.shares c.args.rule.now) c.args.place.now c.args.first
-    c.args.job.now c.into-iter-k-iterator.result c.m.result
-    (c.into-iter-k-iterator.ensures.into-iter-gives ∙ c.between-k-items.ensures) c.m.ensures
+    c.args.job.now c.into_iter-k-iterator.result c.m.result
+    (c.into_iter-k-iterator.ensures.into_iter_gives ∙ c.between-k-items.ensures) c.m.ensures
 
 pub returns-then-not-may-share : goal.returns-then-not-may-share
 returns-then-not-may-share g c =
@@ -24,7 +24,7 @@ pub loop-k-preserved : goal.loop-k-preserved
 loop-k-preserved g c =
     partner_absent (g.S.Task.meaning c.args.task.now) (g.R.Rule.shares c.args.rule.now) c.args.place.now c.args.first
     c.args.job.now c.loop-k.k-iterator c.next.new.self c.in-Some.k c.loop-k.invariant c.in-Some.ensures.steps
-    c.in-default.ensures
+    c.in_default.ensures
 
 pub returns : goal.returns
 returns g c =

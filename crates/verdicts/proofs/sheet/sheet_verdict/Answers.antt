@@ -19,7 +19,7 @@ pub loop-round-preserved : goal.loop-round-preserved
 loop-round-preserved g c =
     rest_more (g.S.Task.meaning c.args.task.now) (g.R.Rule.shares c.args.rule.now) c.args.rounds c.args.sheet.now
     c.if-sheet-rounds.false c.loop-round.round (has c.loop-round.state) c.loop-round.invariant _ (has c.state-after-state.result)
-    c.loop-round-test.true c.in-default.ensures c.state-after-state.ensures
+    c.loop-round-test.true c.in_default.ensures c.state-after-state.ensures
 
 pub returns : goal.returns
 returns g c =

@@ -9,7 +9,7 @@ use Rattle.reach.proofs.pair_set.PairSet.common.Goals as goal
 
 pub loop-p-init : goal.loop-p-init
 loop-p-init c =
-    let walk = c.into-iter-p-iterator.result in
+    let walk = c.into_iter-p-iterator.result in
     (begun_none walk.left walk refl, shared_none c.args.self.now walk.left walk c.full-common.result refl c.full-common.ensures)
 
 pub row-requires : goal.row-requires
@@ -17,7 +17,7 @@ row-requires c = has_below c.loop-p.p-iterator.left c.in-Some.p c.in-Some.ensure
 
 pub loop-p-preserved : goal.loop-p-preserved
 loop-p-preserved c =
-    let s = c.into-iter-p-iterator.result.left in
+    let s = c.into_iter-p-iterator.result.left in
     let step = c.in-Some.ensures.steps in (
       begun_more s c.loop-p.p-iterator c.next.new.self c.in-Some.p step c.loop-p.invariant.0,
       shared_more c.args.self.now s c.loop-p.p-iterator c.loop-p.common c.next.new.self c.loop-p.invariant.1 c.in-Some.p
@@ -26,8 +26,8 @@ loop-p-preserved c =
 
 pub returns : goal.returns
 returns c =
-    let is = walk_of c.into-iter-p-iterator.ensures.into-iter-gives c.walk-p-items.ensures in
+    let is = walk_of c.into_iter-p-iterator.ensures.into_iter_gives c.walk-p-items.ensures in
     subst
     (λ (s : FactSet). (q : ℕ) → Decides (has c.loop-p.common q) ((q < 128) × ((p : ℕ) → has s p ≡ true → paired c.args.self.now p q ≡ true))) is
-    (shared_all c.args.self.now c.into-iter-p-iterator.result.left c.loop-p.p-iterator c.loop-p.common c.next.new.self
+    (shared_all c.args.self.now c.into_iter-p-iterator.result.left c.loop-p.p-iterator c.loop-p.common c.next.new.self
     c.loop-p.invariant.1 c.in-None.ensures.steps)

@@ -3,8 +3,8 @@ use Rattle.std.proofs.lemmas.Bool.{cases_lt, both_ways}
 use Rattle.sets.proofs.JobLaws.{word_none, word_next, past_words}
 use Rattle.sets.proofs.jobs.JobSet.next.Goals as goal
 
-pub overflow-cast-result-then-rest-ne0 : goal.overflow-cast-result-then-rest-ne0
-overflow-cast-result-then-rest-ne0 c =
+pub overflow_cast-result-then-rest-ne0 : goal.overflow_cast-result-then-rest-ne0
+overflow_cast-result-then-rest-ne0 c =
     let f = word_next c.args.self.now c.args.from c.loop-w.w c.loop-w.skip c.loop-w.invariant.0 c.loop-w.invariant.1 (omega arith)
     (omega arith) c.loop-w.invariant.2 c.if-rest-ne0.true in
     omega (arith, f.0)

@@ -6,4 +6,4 @@ pub returns : goal.returns
 returns c =
     let a = c.args.self.now in
     let b = c.args.other.now in
-    Decides-at _ _ (not_disjoint a b c.union.result c.is-disjoint.result c.union.ensures c.is-disjoint.ensures) (decides_spoils a b)
+    Decides-at _ _ (not_disjoint a b c.union.result c.is_disjoint.result c.union.ensures c.is_disjoint.ensures) (decides_spoils a b)

@@ -11,4 +11,4 @@ returns c =
     let b = c.args.b.now in
     let same : not c.interferes.result ≡ apart a b =
     ap not (same_from_decides c.interferes.result (interferes a b) c.interferes.ensures (decides_interferes a b)) in
-    (same, Decides-at (not c.interferes.result) (apart a b) same (decides_apart a b))
+    record { value = same; decides = Decides-at (not c.interferes.result) (apart a b) same (decides_apart a b) }
