@@ -3,4 +3,5 @@
 //! The definitions are in `specs/`; there is no code here but the functions whose contracts are the
 //! theorems.
 #![tactic(auto)]
+
 pub mod theorems;

@@ -1,5 +1,6 @@
 //! The table of pairs: opening it, growing it by a layer, and reading the goal from it.
 #![tactic(auto)]
+
 pub mod goal;
 pub mod grow;
 mod makings;

@@ -11,13 +11,13 @@ pub loop-q-init : goal.loop-q-init
 loop-q-init c =
     let walk = c.into_iter-q-iterator.result in so_far_none (λ q x. entry c.args.table.now c.args.p q ≡ x) walk.left walk refl
 
-pub offset-bounds-table-entry-number : goal.offset-bounds-table-entry-number
-offset-bounds-table-entry-number c =
+pub offset_bounds-table-entry_number : goal.offset_bounds-table-entry_number
+offset_bounds-table-entry_number c =
     let low = has_below c.loop-q.q-iterator.left c.in-Some.q c.in-Some.ensures.steps.0.0 in
     omega (arith, entry_number_small c.args.p c.in-Some.q (omega arith) (omega arith))
 
-pub bounds-table-entry-number : goal.bounds-table-entry-number
-bounds-table-entry-number c =
+pub bounds-table-entry_number : goal.bounds-table-entry_number
+bounds-table-entry_number c =
     let is = walk_of c.into_iter-q-iterator.ensures.into_iter_gives c.walk-q-items.ensures in
     omega (arith, c.requires c.in-Some.q (rw is at (c.loop-q.invariant.begun c.in-Some.q c.in-Some.ensures.steps.0.0)))
 

@@ -25,11 +25,11 @@ loop-j-preserved g c =
       | in-Some w ↦
           rw w.made-is
           (made_more T R ok s rs c.requires.ready c.requires.symmetric singles alone c.loop-j.j (omega arith) c.loop-j.made c.loop-j.invariant
-          w.in-Some.own w.added-or-kept-beside.result w.with-others.result w.join.new.self w.in-Some.is
-          w.added-or-kept-beside.ensures
-          (λ q. subst (λ (m : ℕ). Decides (has w.with-others.result q)
-          ((has w.added-or-kept-beside.result q ≡ true) ⊎ Helps R rs w.in-Some.own (c.loop-j.j + 1) m q))
-          c.m-m.ensures (w.with-others.ensures q))
+          w.in-Some.own w.added_or_kept-beside.result w.with_others.result w.join.new.self w.in-Some.is
+          w.added_or_kept-beside.ensures
+          (λ q. subst (λ (m : ℕ). Decides (has w.with_others.result q)
+          ((has w.added_or_kept-beside.result q ≡ true) ⊎ Helps R rs w.in-Some.own (c.loop-j.j + 1) m q))
+          c.m-m.ensures (w.with_others.ensures q))
           w.join.ensures)
       | in_default w ↦
           rw w.made-is

@@ -13,8 +13,8 @@ loop-j-preserved g c =
     elim c.match-job.branch [
       | in-Some w ↦
           rw w.ready-is
-          (looked_more T s c.loop-j.ready c.loop-j.j c.loop-j.invariant w.in-Some.job w.ready-job.result
-          (let few = (g.S.Task.admitted c.args.task.now).few_jobs in omega arith) (sym w.in-Some.ensures) w.ready-job.ensures)
+          (looked_more T s c.loop-j.ready c.loop-j.j c.loop-j.invariant w.in-Some.job w.ready_job.result
+          (let few = (g.S.Task.admitted c.args.task.now).few_jobs in omega arith) (sym w.in-Some.ensures) w.ready_job.ensures)
       | in_default w ↦
           rw w.ready-is (looked_past T s c.loop-j.ready c.loop-j.j c.loop-j.invariant (sym w.in_default.ensures))
     ]

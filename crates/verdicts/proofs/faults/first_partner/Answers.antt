@@ -8,17 +8,17 @@ loop-k-init g c =
     c.args.job.now c.into_iter-k-iterator.result c.m.result
     (c.into_iter-k-iterator.ensures.into_iter_gives ∙ c.between-k-items.ensures) c.m.ensures
 
-pub returns-then-not-may-share : goal.returns-then-not-may-share
-returns-then-not-may-share g c =
+pub returns-then-not-may_share : goal.returns-then-not-may_share
+returns-then-not-may_share g c =
     partner_found (g.S.Task.meaning c.args.task.now) (g.R.Rule.shares c.args.rule.now) c.args.place.now c.args.first
     c.args.job.now c.loop-k.k-iterator c.next.new.self c.in-Some.k c.loop-k.invariant c.in-Some.ensures.steps
-    c.in-Some-job.other c.may-share.result c.in-Some-job.ensures c.may-share.ensures c.if-not-may-share.true
+    c.in-Some-job.other c.may_share.result c.in-Some-job.ensures c.may_share.ensures c.if-not-may_share.true
 
-pub loop-k-preserved-else-not-may-share : goal.loop-k-preserved-else-not-may-share
-loop-k-preserved-else-not-may-share g c =
+pub loop-k-preserved-else-not-may_share : goal.loop-k-preserved-else-not-may_share
+loop-k-preserved-else-not-may_share g c =
     partner_free (g.S.Task.meaning c.args.task.now) (g.R.Rule.shares c.args.rule.now) c.args.place.now c.args.first
     c.args.job.now c.loop-k.k-iterator c.next.new.self c.in-Some.k c.loop-k.invariant c.in-Some.ensures.steps
-    c.in-Some-job.other c.may-share.result c.in-Some-job.ensures c.may-share.ensures c.if-not-may-share.false
+    c.in-Some-job.other c.may_share.result c.in-Some-job.ensures c.may_share.ensures c.if-not-may_share.false
 
 pub loop-k-preserved : goal.loop-k-preserved
 loop-k-preserved g c =

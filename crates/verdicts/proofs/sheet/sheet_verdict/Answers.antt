@@ -18,8 +18,8 @@ returns-in-Some g c =
 pub loop-round-preserved : goal.loop-round-preserved
 loop-round-preserved g c =
     rest_more (g.S.Task.meaning c.args.task.now) (g.R.Rule.shares c.args.rule.now) c.args.rounds c.args.sheet.now
-    c.if-sheet-rounds.false c.loop-round.round (has c.loop-round.state) c.loop-round.invariant _ (has c.state-after-state.result)
-    c.loop-round-test.true c.in_default.ensures c.state-after-state.ensures
+    c.if-sheet-rounds.false c.loop-round.round (has c.loop-round.state) c.loop-round.invariant _ (has c.state_after-state.result)
+    c.loop-round-test.true c.in_default.ensures c.state_after-state.ensures
 
 pub returns : goal.returns
 returns g c =
@@ -28,7 +28,7 @@ returns g c =
       c.if-sheet-rounds.false,
       verdict_on T R (g.S.Task.admitted c.args.task.now)
           record { symmetric = g.met.R.Rule.symmetric c.args.rule.now; harmless = g.met.R.Rule.harmless c.args.rule.now }
-          c.args.rounds c.args.sheet.now c.goal-verdict.result
+          c.args.rounds c.args.sheet.now c.goal_verdict.result
           (rest_end T R c.args.rounds c.args.sheet.now c.if-sheet-rounds.false c.loop-round.round (has c.loop-round.state)
-          c.loop-round.invariant c.goal-verdict.result (omega arith) c.goal-verdict.ensures),
+          c.loop-round.invariant c.goal_verdict.result (omega arith) c.goal_verdict.ensures),
     )

@@ -9,8 +9,8 @@ pub loop-q-init : goal.loop-q-init
 unfolding pair_count
 loop-q-init c = read_none c.empty-reached.result c.args.t c.args.table.now c.empty-reached.ensures
 
-pub read-pairs-of-requires : goal.read-pairs-of-requires
-read-pairs-of-requires c = record { fact = omega arith; room = omega (arith, pair_count_le (c.loop-q.q + 1) c.args.n (omega arith)); below = c.loop-q.invariant }
+pub read_pairs_of-requires : goal.read_pairs_of-requires
+read_pairs_of-requires c = record { fact = omega arith; room = omega (arith, pair_count_le (c.loop-q.q + 1) c.args.n (omega arith)); below = c.loop-q.invariant }
 
 pub returns : goal.returns
 returns c =

@@ -7,11 +7,11 @@ use Rattle.reach.proofs.PairSetLaws.{read_more, read_skip}
 use Rattle.reach.proofs.pair_set.PairSet.read_pairs_of.Goals as goal
 use Rattle.reach.proofs.pair_set.PairSet.read_pairs_of.Goals.{then-table-first, else-table-first}
 
-pub overflow-add-first : goal.overflow-add-first
-overflow-add-first c = omega (arith, pair_count_small c.args.q (omega arith))
+pub overflow_add-first : goal.overflow_add-first
+overflow_add-first c = omega (arith, pair_count_small c.args.q (omega arith))
 
-pub offset-bounds-table-first : goal.offset-bounds-table-first
-offset-bounds-table-first c = omega (arith, pair_count_small c.args.q (omega arith))
+pub offset_bounds-table-first : goal.offset_bounds-table-first
+offset_bounds-table-first c = omega (arith, pair_count_small c.args.q (omega arith))
 
 pub bounds-table-first : goal.bounds-table-first
 bounds-table-first c = omega (arith, pair_count_more c.args.q)
@@ -31,11 +31,11 @@ loop-p-preserved c =
       | then-table-first w ↦
           rw w.self-is
           (read_more c.loop-p.self c.args.t c.args.table.now c.loop-p.p c.args.q (first + c.loop-p.p) at c.loop-p.invariant
-          w.pair.new.self (rw c.pair-count-first.ensures at w.if-table-first.true) w.pair.ensures)
+          w.pair.new.self (rw c.pair_count-first.ensures at w.if-table-first.true) w.pair.ensures)
       | else-table-first w ↦
           rw w.self-is
           (read_skip c.loop-p.self c.args.t c.args.table.now c.loop-p.p c.args.q (first + c.loop-p.p) at c.loop-p.invariant
-          (rw c.pair-count-first.ensures at w.if-table-first.false))
+          (rw c.pair_count-first.ensures at w.if-table-first.false))
     ])
 
 pub returns : goal.returns
