@@ -2,6 +2,7 @@
 //!
 //! A book keeps a few numbers. The table and the sheet belong to the caller, who lends them at each call.
 #![tactic(auto)]
+
 pub mod book;
 pub mod lists;
 pub mod refusal;
