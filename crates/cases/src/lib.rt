@@ -1,5 +1,6 @@
 //! Small counts with known answers: as a theorem on the definitions, and run as tests.
 #![tactic(auto)]
+
 #[cfg(test)]
 mod calls;
 #[cfg(test)]

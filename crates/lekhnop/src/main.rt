@@ -1,6 +1,7 @@
 //! Lekhnop walks through one count, the lift: it opens a book, grows its table under apart until a
 //! distance or none is told, and judges sheets of rounds; then it edits the sheet after every growing.
 #![tactic(auto)]
+
 mod desk;
 mod lift;
 mod print;

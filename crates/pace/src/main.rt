@@ -2,6 +2,7 @@
 //! prints how many layers that took and how many pairs are reached. A first argument names one kind to
 //! do alone; `opened` behind it leaves the growing out.
 #![tactic(auto)]
+
 mod draws;
 mod growth;
 mod kind;
