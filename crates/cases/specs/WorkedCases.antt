@@ -1,10 +1,10 @@
 -- What is so of the small counts, by the definitions that the book's contracts cite.
 --
 --   After T R g d           d is what is told of the distance after g growings
---   SettledAfter T R g d   the same, and the book is settled by then
+--   SettledAfter T R g d    the same, and the book is settled by then
 --   Entry T R g p q e       the book is settled after g growings, and e is the entry of {p, q}
 --   Answer T R g rs rep     it is settled, and rep is what judging answers on the rounds rs
---   WorkedCases            the cases
+--   WorkedCases             the cases
 use Rattle.std.specs.Prelude.{◌≡◌, ℕ, ◌<◌, min, List, [], ◌∷◌, length, ℤ, pos, negsuc, Some, None, Option}
 use Rattle.strips.specs.Rounds.{Round}
 use Rattle.strips.specs.Rules.{Says, apart, single_file}

@@ -1,10 +1,10 @@
 -- What layers say of plans, and that they come to an end.
 --
---   PlansReach       a plan of r rounds reaches the goal at layer r, so that no plan has fewer rounds
+--   PlansReach        a plan of r rounds reaches the goal at layer r, so that no plan has fewer rounds
 --                     than the distance
 --   Settles T R L     layer L is the first that equals its next, one of the first n(n+1)/2 + 1; every
 --                     pair of any layer is in it, so that there is no plan where it doesn't reach the goal
---   LayersSettle     every task has such a layer, under every rule
+--   LayersSettle      every task has such a layer, under every rule
 use Rattle.std.specs.Prelude.{ℕ, ◌≤◌, List, length}
 use Rattle.sets.specs.Search.{Lowest}
 use Rattle.strips.specs.Tasks.{Meaning, Admitted}

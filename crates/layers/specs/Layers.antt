@@ -4,7 +4,7 @@
 --   Pairs              a set of pairs of facts
 --   Reached L S        the set S of facts is reached at L: each pair within it is in L, {p} too
 --   Maker              what makes a fact hold after a round: a job by its number, or the keeping of a fact
---   IsMaker T x       the job is present; the fact is one of the task's
+--   IsMaker T x        the job is present; the fact is one of the task's
 --   Needs x, Adds x    what a maker needs and adds; the keeping of q needs q and adds q
 --   Together R x y     two makers go together: two different jobs if the rule says yes, a job and the
 --                      keeping of q if the job doesn't delete q, two keepings always
@@ -14,7 +14,7 @@
 --   Layer T R t        layer 0 holds the pairs within the start; each next holds the one before it and
 --                      what enters behind that
 --   First T R p q t    t is the first layer with {p, q}
---   GoalAt T R t      the goal is reached at layer t
+--   GoalAt T R t       the goal is reached at layer t
 --   Distance T R d     d is the first layer at which the goal is reached
 --   Stable T R t       layer t equals its next
 use Rattle.std.specs.Prelude.{◌≡◌, ℕ, zero, suc, ◌<◌, true, false, ◌≢◌, ◌⊎◌, Some}

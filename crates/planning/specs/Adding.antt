@@ -5,7 +5,7 @@
 --   at_fault m js i      it is one or the other
 --   clean m js           no number of the list is at fault
 --   fault_number m js i  the number of the refusal for number i: 10 before 6
---   FirstAtFault m js i   number i is the first of the list that is at fault
+--   FirstAtFault m js i  number i is the first of the list that is at fault
 --   free places r        with r rounds in use, a place is free, and 500 aren't in use
 --   Checked m js r       what the check of the list answers
 --   Added b sh js r b' sh'    adding

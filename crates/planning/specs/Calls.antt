@@ -6,7 +6,7 @@
 --   Dropped b r b'            dropping
 --   Tells b o d               what a book tells of the distance, where o is the layer that its table gives
 --                             for the goal
---   ToldBy T b tb d          the distance that a book tells from its table
+--   ToldBy T b tb d           the distance that a book tells from its table
 --   Asked T b tb r            asking for the distance alone
 --   Reported T R b tb sh rep  what judging answers where it isn't refused
 --   Judging T R b tb sh r     judging

@@ -5,7 +5,7 @@
 --   at_fault b xs i        it is one or the other
 --   clean b xs             no number of the list is at fault
 --   fault_number k b xs i  the number of the refusal for number i: k where it is too large, else 6
---   FirstAtFault b xs i  number i is the first of the list that is at fault
+--   FirstAtFault b xs i    number i is the first of the list that is at fault
 --   Checked k b xs r       what the check of the list answers, where k is the refusal of numbers too large
 use Rattle.std.specs.Prelude.{◌≡◌, ℕ, ◌-◌, ◌<◌, Bool, true, cond, not, ◌&&◌, ◌||◌, List, length, Ok, Err, Result, nat_le, nat_lt, slice_index}
 use Rattle.sets.specs.Search.{any, Lowest}

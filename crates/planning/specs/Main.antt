@@ -1,19 +1,19 @@
 -- The theorem on lists of calls.
 --
 --   Bounds T R d            what a distance that is told says of every plan
---   ToldAfter T R L g d    d is what is told after g growings, where L is the first layer that equals its
+--   ToldAfter T R L g d     d is what is told after g growings, where L is the first layer that equals its
 --                           next: the distance once a layer that was grown reaches the goal, else none
 --                           once the book is settled, else at least g + 1
 --   Decided d               d is a distance or none
---   EntryAfter T R t p q e   e is the entry of {p, q} at layer t: its first layer if that is at most t, else
+--   EntryAfter T R t p q e  e is the entry of {p, q} at layer t: its first layer if that is at most t, else
 --                           65,535
---   JudgedWell             what holds of an answer of judging, after g growings, on the rounds rs
+--   JudgedWell              what holds of an answer of judging, after g growings, on the rounds rs
 --   Worked T R L k cs w     what holds of a book with its table and its sheet of k places, after the calls cs
 --   Alike T R w w'          what two lists of calls with equal numbers of growings have in common
 --   Stories T R             what holds of every accepted opening of one task and every list of calls after
 --                           it, under one rule
---   ListsOfCalls          so it is for every admitted task and every lawful rule
---   HoldsOfRuns           the same for one task, rule, book, table and sheet and one answer of judging, for
+--   ListsOfCalls            so it is for every admitted task and every lawful rule
+--   HoldsOfRuns             the same for one task, rule, book, table and sheet and one answer of judging, for
 --                           all lists of calls that lead there
 use Rattle.std.specs.Prelude.{◌≡◌, ℕ, suc, ◌<◌, ◌≤◌, min, true, ◌⊎◌, ◌↔◌, List, length, Ok, Result, slice_index}
 use Rattle.sets.specs.declared.jobs.JobSet.{JobSet}

@@ -2,11 +2,11 @@
 --
 --   In s                  the pairs of the set s
 --   Common s x c          c has the facts that every fact of the set x is paired with
---   NeedsReached L a     the needs of job a are reached at L
+--   NeedsReached L a      the needs of job a are reached at L
 --   Readied s a o         job a is ready, that is, its needs are reached, and o has it with what is common to
 --                         them; or it isn't, and o has nothing
---   ReadyAt T s j o      o has job j in this way, if it is present and ready
---   ReadyJobs T s rs     number j of the list rs does, for each job number j below m
+--   ReadyAt T s j o       o has job j in this way, if it is present and ready
+--   ReadyJobs T s rs      number j of the list rs does, for each job number j below m
 --   Joins R x y           the rule lets the ready jobs x and y share a round, and what y needs is common to
 --                         the needs of x
 --   Helps R rs x j k q    a ready job that joins x, from number j up and below k, adds q

@@ -5,16 +5,16 @@
 --   Short n tb e          it has too few, and e says how many, and for how many facts
 --   Reads n t tb          the table of n facts read as layer t: an entry up to t is reached, a larger one
 --                         isn't
---   KeptBehind n tb tb'  what stands behind the entries of n facts is as it was
+--   KeptBehind n tb tb'   what stands behind the entries of n facts is as it was
 --   Opening T tb r tb'    what opening answers and writes: 0 for the pairs within the start, 65,535 for
 --                         the others
 --   New T R t tb p q      {p, q} isn't reached in the table read as layer t, and enters behind it
 --   Growing T R t tb r tb'   what growing answers and writes: t + 1 to the entry of each new pair; nothing
 --                         where there is none, or t is n(n+1)/2 or more
---   GoalRead T t tb      every pair of the goal is reached in the table read as layer t
---   LargestWith p s tb d    d is the largest entry of p with the facts of s, 0 for an empty s
+--   GoalRead T t tb       every pair of the goal is reached in the table read as layer t
+--   LargestWith p s tb d  d is the largest entry of p with the facts of s, 0 for an empty s
 --   Largest T tb d        d is the largest entry of the pairs of the goal, 0 for an empty goal
---   GoalTold T t tb r    what reading the goal answers: the largest entry of its pairs, if all are reached
+--   GoalTold T t tb r     what reading the goal answers: the largest entry of its pairs, if all are reached
 use Rattle.std.specs.Prelude.{◌≡◌, ℕ, ◌+◌, ◌<◌, ◌≤◌, Bool, true, false, cond, ◌&&◌, ◌⊎◌, List, length, Some, None, Ok, Err, Option, Result, ◌≢◌, slice_index}
 use Rattle.sets.specs.declared.facts.FactSet.{FactSet}
 use Rattle.sets.specs.Facts.{has}

@@ -4,7 +4,7 @@
 --   listed xs k        k is one of the numbers xs
 --   Lowest P k         k is the lowest number of which P holds
 --   Finds P r          r is the lowest number of which P holds, or none where there is no such number
---   FindsPair P r     r is the lowest number that P joins to some number, and the lowest that it is
+--   FindsPair P r      r is the lowest number that P joins to some number, and the lowest that it is
 --                      joined to; or none where P joins no two numbers
 use Rattle.std.specs.Prelude.{ℕ, zero, suc, ◌<◌, Bool, false, ◌||◌, List, length, Some, None, Option, nat_eq, slice_index}
 

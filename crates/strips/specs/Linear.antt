@@ -3,8 +3,8 @@
 --   Linear T rs          there is one state, which holds the goal, such that every free order of the
 --                        rounds rs is permitted job by job from the start and ends in that state
 --   Numbered m rs        every round of rs names only numbers below m
---   PlansAreLinear     so it is for every plan, of every admitted task, under every lawful rule
---   RoundsHaveOrders   every list of rounds that name finitely many jobs has a free order, so that
+--   PlansAreLinear       so it is for every plan, of every admitted task, under every lawful rule
+--   RoundsHaveOrders     every list of rounds that name finitely many jobs has a free order, so that
 --                        the statement above is not empty
 use Rattle.std.specs.Prelude.{◌≡◌, ℕ, ◌<◌, true, List, [], ◌∷◌}
 use Rattle.sets.specs.Facts.{has}

@@ -4,8 +4,8 @@
 --   Singly T s js e    the jobs js are done one by one from the state s, each permitted when its turn
 --                      comes (present, and the state holds its needs), and e is the state at the end
 --   Once js            no number comes twice
---   OrderOf r js      js has each job of round r once, in some order
---   FreeOrder rs js   js goes round by round and takes each job of a round once, in any order inside
+--   OrderOf r js       js has each job of round r once, in some order
+--   FreeOrder rs js    js goes round by round and takes each job of a round once, in any order inside
 --                      the round
 use Rattle.std.specs.Prelude.{◌≡◌, ℕ, true, not, ◌&&◌, ◌||◌, ◌⊎◌, List, [], ◌∷◌, ◌++◌, Some}
 use Rattle.sets.specs.Facts.{has}

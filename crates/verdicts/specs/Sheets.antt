@@ -1,7 +1,7 @@
 -- What is answered of a sheet.
 --
 --   rounds_of m n sheet        the rounds at the first n places of the sheet, for m jobs
---   VerdictOn T R rs v        v is the verdict on the rounds rs, the only one, and what it says of plans
+--   VerdictOn T R rs v         v is the verdict on the rounds rs, the only one, and what it says of plans
 --                              holds: it is sound exactly if they are a plan, and then every free order
 --                              of them is permitted job by job and all end in one state, which holds the
 --                              goal; and there is a free order

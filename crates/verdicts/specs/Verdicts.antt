@@ -1,7 +1,7 @@
 -- Verdicts by their words.
 --
 --   told v           the word of verdict v, and its numbers in their order
---   IsSound v       v is the verdict sound
+--   IsSound v        v is the verdict sound
 --   text v           how v reads: its word, then each number behind a blank, in decimal
 --   fault_round v    the round at fault, where a round is
 use Rattle.std.specs.Prelude.{◌≡◌, ℕ, List, [], ◌∷◌, ◌++◌, Some, None, codes, decimal, Option}
