@@ -1,8 +1,8 @@
--- Interference as a test.
-use Rattle.std.specs.Prelude.{◌≡◌, ℕ, Bool, true, false, not, ◌&&◌, ◌||◌, ◌⊎◌, Decides, refl}
-use Rattle.std.proofs.Common.{sym, ap, ◌∙◌, inl, inr}
+-- Interference as a test, and why the three sharing rules are lawful.
+use Rattle.std.specs.Prelude.{◌≡◌, ℕ, Bool, true, false, not, ◌&&◌, ◌||◌, ◌⊎◌, Decides, ◌==◌, refl}
+use Rattle.std.proofs.Common.{sym, ap, ap₂, ◌∙◌, inl, inr}
 use Rattle.std.proofs.Math.Bool.{or_comm}
-use Rattle.std.proofs.lemmas.Bool.{and_parts, and_from, or_cases, or_left, or_right, both_ways, cases_Bool, not-true, not_from_true, not_from_false}
+use Rattle.std.proofs.lemmas.Bool.{and_parts, and_from, or_cases, or_left, or_right, both_ways, cases_Bool, eq-eqb, eqb-true, not-true, not_from_true, not_from_false}
 use Rattle.std.proofs.lemmas.Bool.Decides.{Decides-or, Decides-not}
 use Rattle.sets.specs.declared.facts.FactSet.{FactSet}
 use Rattle.sets.specs.Facts.{has}
@@ -10,7 +10,7 @@ use Rattle.sets.proofs.FactLaws.{has_below}
 use Rattle.sets.proofs.SearchLaws.{decides_any}
 use Rattle.strips.specs.declared.job.Job.{Job}
 use Rattle.strips.specs.Jobs.{Spoils, Interferes, spoils, interferes}
-use Rattle.strips.specs.Rules.{Lawful, apart, single_file}
+use Rattle.strips.specs.Rules.{Lawful, apart, single_file, zones_agree, zoned}
 
 in_either : (x y : Bool) → (x ≡ true) ⊎ (y ≡ true) → (x || y) ≡ true
 in_either x y (inl e) = or_left x y e
@@ -67,3 +67,23 @@ apart_lawful = record {
 
 pub single_file_lawful : Lawful single_file
 single_file_lawful = record { symmetric = λ a b. refl; harmless = λ a b e w. both_ways false refl e }
+
+equal_swap : (x y : ℕ) → (x == y) ≡ (y == x)
+equal_swap x y =
+    elim (cases_Bool (x == y)) [
+      | inl e ↦ e ∙ sym (eq-eqb y x (sym (eqb-true x y e)))
+      | inr e ↦
+          elim (cases_Bool (y == x)) [
+            | inl e' ↦ absurd (both_ways (x == y) e (eq-eqb x y (sym (eqb-true y x e'))))
+            | inr e' ↦ e ∙ sym e'
+          ]
+    ]
+
+zones_swap : (a b : Job) → zones_agree a b ≡ zones_agree b a
+zones_swap a b = ap₂ ◌||◌ (ap not (equal_swap a.zone b.zone)) (or_comm (a.zone == 0) (b.zone == 0))
+
+pub zoned_lawful : Lawful zoned
+zoned_lawful = record {
+  symmetric = λ a b. ap₂ ◌&&◌ (ap not (interferes_swap a b)) (zones_swap a b);
+  harmless = λ a b e. apart_lawful.harmless a b (and_parts (apart a b) (zones_agree a b) e).0;
+}

@@ -1,12 +1,8 @@
 //! The three sharing rules.
+ghost use Rattle.std.specs.Prelude.{◌≡◌, Decides};
 ghost use Rattle.strips.specs.Jobs.{Interferes};
 ghost use Rattle.strips.specs.Rules.{apart, single_file, zoned, zones_agree, ZonesAgree};
-ghost use Rattle.std.specs.Prelude.{◌≡◌, false, Decides};
-ghost use Rattle.strips.specs.JobLaws.{apart_lawful, interferes_swap, decides_interferes};
-ghost use Rattle.std.proofs.Common.{rules, arith};
-ghost use Rattle.std.proofs.lemmas.Bool.Decides.{nat_tests};
-ghost use Rattle.std.proofs.lemmas.Bool.{and_parts, both_ways, not-true};
-ghost use Rattle.strips.specs.Jobs;
+ghost use Rattle.strips.specs.JobLaws.{apart_lawful, single_file_lawful, zoned_lawful};
 
 use crate::job::Job;
 use crate::rule::Rule;
@@ -37,9 +33,9 @@ pub struct SingleFile;
 impl Rule for SingleFile {
     ghost shares = { λ _. single_file };
 
-    ghost symmetric = { Prim.search rules };
+    ghost symmetric = { λ x. single_file_lawful.symmetric };
 
-    ghost harmless = { Prim.search rules };
+    ghost harmless = { λ x. single_file_lawful.harmless };
 
     fn may_share(&self, _a: &Job, _b: &Job) -> bool {
         false
@@ -53,9 +49,9 @@ pub struct Zoned;
 impl Rule for Zoned {
     ghost shares = { λ _. zoned };
 
-    ghost symmetric = { λ x a b. let e = interferes_swap a b in Prim.grind (arith, nat_tests) };
+    ghost symmetric = { λ x. zoned_lawful.symmetric };
 
-    ghost harmless = { λ x a b e w. both_ways (Jobs.interferes a b) (not-true (Jobs.interferes a b) (and_parts (apart a b) _ e).0) ((decides_interferes a b).1 w) };
+    ghost harmless = { λ x. zoned_lawful.harmless };
 
     fn may_share(&self, a: &Job, b: &Job) -> bool
         ensures value { result ≡ zoned a.now b.now }
