@@ -7,7 +7,7 @@ pub overflow_add-result : goal.overflow_add-result
 overflow_add-result c = omega (arith, pair_count_small c.args.q (omega arith))
 
 pub overflow_add-result-else-p-q : goal.overflow_add-result-else-p-q
-overflow_add-result-else-p-q c = omega (arith, pair_count_small c.args.p (omega arith))
+overflow_add-result-else-p-q c = omega (arith, pair_count_small c.args.p (omega arith), pair_count_small c.args.q (omega arith))
 
 pub returns-then-p-q : goal.returns-then-p-q
 returns-then-p-q c = omega (arith, entry_number_up c.args.p c.args.q (omega arith))
