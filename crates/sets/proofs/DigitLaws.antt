@@ -1,142 +1,87 @@
 -- The laws of `bit` and `word`: what digit k of a number is.
-use Rattle.std.proofs.Common.{◌≡◌, ℕ, zero, suc, ◌+◌, ◌*◌, ◌/◌, ◌%◌, ◌^◌, ◌<◌, ◌≤◌, Bool, true, false, cond, not, ◌&&◌, ◌||◌, eqb, ltb, sym, refl, ap, ◌∙◌, ap₂, inl, inr, suc-le-suc, le_of_suc-le-suc, mod-lt, mod-eq_of_lt, zero-lt-suc, pow-suc, div-one, mul-div_cancel, add-one, one-add, arith, lit<, shr-shr, shr_lt}
-use native.Mathlib.Nat.{zero-div, mul-mod_left, mod-one}
-use Rattle.std.proofs.lemmas.Bool.{eqb-false, cases_lt, le-ltb}
+use Rattle.std.proofs.Common.{◌≡◌, ℕ, zero, suc, ◌+◌, ◌*◌, ◌/◌, ◌%◌, ◌^◌, ◌<◌, ◌≤◌, Bool, true, false, cond, not, ◌&&◌, ◌||◌, eqb, ltb, sym, ap, ◌∙◌, inl, inr, le_of_suc-le-suc, mod-lt, pow-suc, arith, lit<, shr-shr}
+use Rattle.std.proofs.lemmas.Bool.{cases_eq, cases_lt}
 use Rattle.std.proofs.lemmas.Bool.Decides.{nat_tests}
-use lib.Dec.{eqb-suc-zero, eqb-zero-suc, eqb-suc-suc, leb-zero, leb-suc-zero, leb-suc-suc}
-use lib.Bits.{bit_and, bit_or, bit_xor, and_shr, or_shr, xor_shr, and_mod, or_mod, xor_mod}
-use lib.Pow.{mod-mod-pow, field}
-use lib.Count.{count_trailing_zeros, under}
+use Rattle.std.proofs.lemmas.Nat.{div-add-mod', pow_pos}
+use Rattle.std.proofs.lemmas.Nat.Bits.{bit_at-lt, bit_at_and, bit_at_or, bit_at_xor, bit_at-zero, bit_at-suc, bit_at_lowest, bit_at-pow_same, bit_at-pow_other, bit_at_above, bit_at_cat_low, bit_at-trailing_zeros, same_from_bits_below}
+use Rattle.std.specs.Int.{bit_at, w64}
+use lib.Bits.{bit_and, bit_or, bit_xor}
+use lib.Count.{count_trailing_zeros}
 use Rattle.sets.specs.Digits.{bit, word}
 
--- an operation that works digit by digit
-module _ (op : ℕ → ℕ → ℕ) (o : Bool → Bool → Bool)
-    (shr : (a b k : ℕ) → op a b / 2 ^ k ≡ op (a / 2 ^ k) (b / 2 ^ k))
-    (low : (a b k : ℕ) → op a b % 2 ^ k ≡ op (a % 2 ^ k) (b % 2 ^ k))
-    (four : (p q : ℕ) → p < 2 → q < 2 → eqb (op p q) 1 ≡ o (eqb p 1) (eqb q 1)) where
-  bit_op : (a b k : ℕ) → bit (op a b) k ≡ o (bit a k) (bit b k)
-  unfolding bit
-  bit_op a b k =
-      ap (λ (x : ℕ). eqb (x % 2) 1) (shr a b k) ∙ ap (λ (x : ℕ). eqb x 1) (low (a / 2 ^ k) (b / 2 ^ k) 1)
-      ∙ four (a / 2 ^ k % 2) (b / 2 ^ k % 2) (mod-lt (a / 2 ^ k) (lit< tt)) (mod-lt (b / 2 ^ k) (lit< tt))
-
-and_four : (p q : ℕ) → p < 2 → q < 2 → eqb (bit_and p q) 1 ≡ (eqb p 1 && eqb q 1)
-and_four zero q hp hq = refl
-and_four (suc zero) zero hp hq = refl
-and_four (suc zero) (suc zero) hp hq = refl
-and_four (suc zero) (suc (suc q)) hp hq = absurd (omega arith)
-and_four (suc (suc p)) q hp hq = absurd (omega arith)
-
-or_four : (p q : ℕ) → p < 2 → q < 2 → eqb (bit_or p q) 1 ≡ (eqb p 1 || eqb q 1)
-or_four zero q hp hq = refl
-or_four (suc zero) zero hp hq = refl
-or_four (suc zero) (suc zero) hp hq = refl
-or_four (suc zero) (suc (suc q)) hp hq = absurd (omega arith)
-or_four (suc (suc p)) q hp hq = absurd (omega arith)
-
-xor_four : (p q : ℕ) → p < 2 → q < 2 → eqb (bit_xor p q) 1 ≡ cond (eqb p 1) (not (eqb q 1)) (eqb q 1)
-xor_four zero q hp hq = refl
-xor_four (suc zero) zero hp hq = refl
-xor_four (suc zero) (suc zero) hp hq = refl
-xor_four (suc zero) (suc (suc q)) hp hq = absurd (omega arith)
-xor_four (suc (suc p)) q hp hq = absurd (omega arith)
-
 pub bit-and : (a b k : ℕ) → bit (bit_and a b) k ≡ (bit a k && bit b k)
-bit-and = bit_op bit_and ◌&&◌ and_shr and_mod and_four
+unfolding bit
+bit-and a b k = let l = bit_at_and a b k in let x = bit_at-lt a k in let y = bit_at-lt b k in grind (arith, nat_tests)
 
 pub bit-or : (a b k : ℕ) → bit (bit_or a b) k ≡ (bit a k || bit b k)
-bit-or = bit_op bit_or ◌||◌ or_shr or_mod or_four
-
-bit-xor : (a b k : ℕ) → bit (bit_xor a b) k ≡ cond (bit a k) (not (bit b k)) (bit b k)
-bit-xor = bit_op bit_xor (λ x y. cond x (not y) y) xor_shr xor_mod xor_four
-
-less : (x y : Bool) → cond x (not (x && y)) (x && y) ≡ (x && not y)
-less true y = refl
-less false y = refl
+unfolding bit
+bit-or a b k = let l = bit_at_or a b k in let x = bit_at-lt a k in let y = bit_at-lt b k in grind (arith, nat_tests)
 
 pub bit_less : (a b k : ℕ) → bit (bit_xor a (bit_and a b)) k ≡ (bit a k && not (bit b k))
-bit_less a b k = bit-xor a (bit_and a b) k ∙ rw bit-and (less (bit a k) (bit b k))
-
--- one digit on
-pub bit_suc : (n k : ℕ) → bit n (suc k) ≡ bit (n / 2) k
 unfolding bit
-bit_suc n k = ap (λ (x : ℕ). eqb (n / 2 ^ x % 2) 1) (sym (one-add k)) ∙ ap (λ (x : ℕ). eqb (x % 2) 1) (sym (shr-shr n 1 k))
-
-pub bit_first : (n : ℕ) → bit n 0 ≡ eqb (n % 2) 1
-unfolding bit
-bit_first n = simp div-one
+bit_less a b k =
+    let l = bit_at_xor a (bit_and a b) k in let m = bit_at_and a b k in let x = bit_at-lt a k in let y = bit_at-lt b k in
+    grind (arith, nat_tests)
 
 pub bit_zero : (k : ℕ) → bit 0 k ≡ false
 unfolding bit
-bit_zero k = simp zero-div
+bit_zero k = ap (λ (x : ℕ). eqb x 1) (bit_at-zero k)
 
 -- the word of the digit j alone
 pub bit_pow : (j k : ℕ) → bit (2 ^ j) k ≡ eqb k j
-bit_pow zero zero = bit_first 1
-bit_pow zero (suc k) = bit_suc 1 k ∙ bit_zero k ∙ sym (eqb-suc-zero k)
-bit_pow (suc j) zero =
-    bit_first (2 ^ suc j) ∙ ap (λ (x : ℕ). eqb x 1) (ap (λ (x : ℕ). x % 2) (pow-suc 2 j) ∙ mul-mod_left (2 ^ j) 2) ∙ sym (eqb-zero-suc j)
-bit_pow (suc j) (suc k) =
-    bit_suc (2 ^ suc j) k ∙ ap (λ (x : ℕ). bit x k) (ap (λ (x : ℕ). x / 2) (pow-suc 2 j) ∙ mul-div_cancel (2 ^ j) (lit< tt))
-    ∙ bit_pow j k ∙ sym (eqb-suc-suc k j)
-
--- the j low digits
-pub bit_mod : (j n k : ℕ) → bit (n % 2 ^ j) k ≡ (ltb k j && bit n k)
-bit_mod zero n k = ap (λ (x : ℕ). bit x k) (mod-one n) ∙ bit_zero k ∙ sym (ap (λ (x : Bool). x && bit n k) (leb-suc-zero k))
-bit_mod (suc j) n zero =
-    bit_first (n % 2 ^ suc j) ∙ ap (λ (x : ℕ). eqb x 1) (ap (λ (x : ℕ). n % 2 ^ x % 2) (sym (add-one j)) ∙ mod-mod-pow n j 1) ∙ sym (bit_first n)
-    ∙ sym (ap (λ (x : Bool). x && bit n 0) (leb-suc-suc 0 j ∙ leb-zero j))
-bit_mod (suc j) n (suc k) =
-    bit_suc (n % 2 ^ suc j) k ∙ ap (λ (x : ℕ). bit x k) (ap (λ (x : ℕ). n % 2 ^ x / 2) (sym (add-one j)) ∙ field n j 1) ∙ bit_mod j (n / 2) k
-    ∙ sym (ap₂ ◌&&◌ (leb-suc-suc (suc k) j) (bit_suc n k))
+unfolding bit
+bit_pow j k =
+    elim (cases_eq k j) [
+      | inl e ↦ let l = bit_at-pow_same j in rw e (grind (arith, nat_tests))
+      | inr ne ↦ let l = bit_at-pow_other j k ne in grind (arith, nat_tests)
+    ]
 
 -- digits past the width
 pub bit_past : (w n k : ℕ) → n < 2 ^ w → w ≤ k → bit n k ≡ false
-bit_past w n k h l =
-    ap (λ (x : ℕ). bit x k) (sym (mod-eq_of_lt h)) ∙ bit_mod w n k ∙ ap (λ (x : Bool). x && bit n k) (le-ltb k w l)
+unfolding bit
+bit_past w n k h l = ap (λ (x : ℕ). eqb x 1) (bit_at_above n w k h l)
 
--- a number of w digits with none set is 0
-pub none_set : (w n : ℕ) → n < 2 ^ w → ((k : ℕ) → k < w → bit n k ≡ false) → n ≡ 0
-none_set zero n h off = omega arith
-none_set (suc w) n h off =
-    let rest : n / 2 ≡ 0 = none_set w (n / 2) (shr_lt w 1 (rw add-one h)) (λ k b. sym (bit_suc n k) ∙ off (suc k) (suc-le-suc b)) in
-    let first : n % 2 ≡ 1 → ⊥ = eqb-false (n % 2) 1 (sym (bit_first n) ∙ off 0 (zero-lt-suc w)) in
-    omega arith
-
--- the trailing zeros: no digit below that place, and the digit there
-pub before_trailing : (w n k : ℕ) → k < count_trailing_zeros w n → bit n k ≡ false
-unfolding count_trailing_zeros
-before_trailing zero n k h = absurd (omega arith)
-before_trailing (suc w) n k h = go (n % 2) k refl h (before_trailing w (n / 2))
-  where
-    go : (d i : ℕ) → n % 2 ≡ d → i < under d (count_trailing_zeros w (n / 2)) → ((j : ℕ) → j < count_trailing_zeros w (n / 2) → bit (n / 2) j ≡ false)
-        → bit n i ≡ false
-    go zero zero e b ih = bit_first n ∙ ap (λ (x : ℕ). eqb x 1) e
-    go zero (suc i) e b ih = bit_suc n i ∙ ih i (le_of_suc-le-suc b)
-    go (suc d) i e b ih = absurd (omega arith)
-
-pub at_trailing : (w n : ℕ) → count_trailing_zeros w n < w → bit n (count_trailing_zeros w n) ≡ true
-unfolding count_trailing_zeros
-at_trailing zero n h = absurd (omega arith)
-at_trailing (suc w) n h = go (n % 2) refl h (at_trailing w (n / 2))
-  where
-    go : (d : ℕ) → n % 2 ≡ d → under d (count_trailing_zeros w (n / 2)) < suc w
-        → (count_trailing_zeros w (n / 2) < w → bit (n / 2) (count_trailing_zeros w (n / 2)) ≡ true) → bit n (under d (count_trailing_zeros w (n / 2))) ≡ true
-    go zero e b ih = bit_suc n (count_trailing_zeros w (n / 2)) ∙ ih (le_of_suc-le-suc b)
-    go (suc zero) e b ih = bit_first n ∙ ap (λ (x : ℕ). eqb x 1) e
-    go (suc (suc d)) e b ih = absurd (omega arith)
-
--- a word that is not 0 has fewer trailing zeros than digits
-pub trailing_below : (w n : ℕ) → n < 2 ^ w → (n ≡ 0 → ⊥) → count_trailing_zeros w n < w
-trailing_below w n h ne =
-    elim (cases_lt (count_trailing_zeros w n) w) [
-      | inl b ↦ b
-      | inr b ↦ absurd (ne (none_set w n h (λ k l. before_trailing w n k (omega arith))))
+-- the j low digits
+pub bit_mod : (j n k : ℕ) → bit (n % 2 ^ j) k ≡ (ltb k j && bit n k)
+unfolding bit
+bit_mod j n k =
+    elim (cases_lt k j) [
+      | inl l ↦
+          let low : bit_at n k ≡ bit_at (n % 2 ^ j) k =
+          ap (λ (x : ℕ). bit_at x k) (sym (div-add-mod' n (2 ^ j))) ∙ bit_at_cat_low (n / 2 ^ j) j (n % 2 ^ j) k l in
+          grind (arith, nat_tests)
+      | inr l ↦ let none = bit_at_above (n % 2 ^ j) j k (mod-lt n (pow_pos j)) l in grind (arith, nat_tests)
     ]
 
 pub bit_shr : (n s k : ℕ) → bit (n / 2 ^ s) k ≡ bit n (s + k)
 unfolding bit
 bit_shr n s k = ap (λ (x : ℕ). eqb (x % 2) 1) (shr-shr n s k)
+
+-- the trailing zeros of a word that is not 0: the place of its lowest digit
+pub trailing : (n : ℕ) → n < 2 ^ 64 → (n ≡ 0 → ⊥)
+    → (count_trailing_zeros 64 n < 64) × (bit n (count_trailing_zeros 64 n) ≡ true) × ((k : ℕ) → k < count_trailing_zeros 64 n → bit n k ≡ false)
+unfolding bit
+trailing n h ne =
+    let (below, at, before) = bit_at-trailing_zeros w64 n (omega arith) h in
+    (below, ap (λ (x : ℕ). eqb x 1) at, λ k l. ap (λ (x : ℕ). eqb x 1) (before k l))
+
+-- two numbers of n digits with the same digits are one number
+pub same_digits : (n a b : ℕ) → a < 2 ^ n → b < 2 ^ n → ((k : ℕ) → k < n → bit a k ≡ bit b k) → a ≡ b
+unfolding bit
+same_digits n a b h l same =
+    same_from_bits_below n a b h l (λ k m. let e = same k m in let x = bit_at-lt a k in let y = bit_at-lt b k in grind (arith, nat_tests))
+
+-- a number of w digits with none set is 0
+pub none_set : (w n : ℕ) → n < 2 ^ w → ((k : ℕ) → k < w → bit n k ≡ false) → n ≡ 0
+none_set w n h off = same_digits w n 0 h (pow_pos w) (λ k l. off k l ∙ sym (bit_zero k))
+
+bit_suc : (n k : ℕ) → bit n (suc k) ≡ bit (n / 2) k
+unfolding bit
+bit_suc n k = ap (λ (x : ℕ). eqb x 1) (bit_at-suc n k)
+
+bit_first : (n : ℕ) → bit n 0 ≡ eqb (n % 2) 1
+unfolding bit
+bit_first n = ap (λ (x : ℕ). eqb x 1) (bit_at_lowest n)
 
 -- the number that a test gives
 pub bit_word : (n : ℕ) (p : ℕ → Bool) (k : ℕ) → k < n → bit (word n p) k ≡ p k
@@ -162,15 +107,3 @@ word_lt (suc n) p = step (p 0) (word_lt n (λ k. p (suc k)))
     step : (b : Bool) → word n (λ k. p (suc k)) < 2 ^ n → cond b 1 0 + 2 * word n (λ k. p (suc k)) < 2 ^ suc n
     step true h = let e = pow-suc 2 n in omega arith
     step false h = let e = pow-suc 2 n in omega arith
-
--- two numbers of n digits with the same digits are one number
-pub same_digits : (n a b : ℕ) → a < 2 ^ n → b < 2 ^ n → ((k : ℕ) → k < n → bit a k ≡ bit b k) → a ≡ b
-same_digits zero a b h l same = omega arith
-same_digits (suc n) a b h l same =
-    let first : a % 2 ≡ b % 2 = low (a % 2) (b % 2) (mod-lt a (lit< tt)) (mod-lt b (lit< tt)) (sym (bit_first a) ∙ same 0 (zero-lt-suc n) ∙ bit_first b) in
-    let rest : a / 2 ≡ b / 2 =
-    same_digits n (a / 2) (b / 2) (shr_lt n 1 (rw add-one h)) (shr_lt n 1 (rw add-one l)) (λ k m. sym (bit_suc a k) ∙ same (suc k) (suc-le-suc m) ∙ bit_suc b k) in
-    omega arith
-  where
-    low : (x y : ℕ) → x < 2 → y < 2 → eqb x 1 ≡ eqb y 1 → x ≡ y
-    low x y p q e = grind (arith, nat_tests)

@@ -9,7 +9,7 @@ use Rattle.sets.specs.Digits.{bit, word}
 use Rattle.sets.specs.Facts.{has, set_of}
 use Rattle.sets.specs.Search.{any, Lowest}
 use Rattle.sets.proofs.SearchLaws.{decides_any}
-use Rattle.sets.proofs.DigitLaws.{bit_zero, bit_pow, bit_mod, bit_word, word_lt, same_digits, none_set, before_trailing, at_trailing, trailing_below}
+use Rattle.sets.proofs.DigitLaws.{bit_zero, bit_pow, bit_mod, bit_word, word_lt, same_digits, none_set, trailing}
 
 -- the three ranges of a fact
 pub has_low : (s : FactSet) (f : ℕ) → f < 64 → has s f ≡ bit s.low f
@@ -29,10 +29,10 @@ has_below s f h = elim (cases_lt f 128) [ inl l ↦ l | inr l ↦ absurd (both_w
 
 -- an operation on the words, digit by digit, is that operation on membership, where it gives nothing from nothing
 pub has_op : (op : ℕ → ℕ → ℕ) (o : Bool → Bool → Bool) → ((a b k : ℕ) → bit (op a b) k ≡ o (bit a k) (bit b k)) → o false false ≡ false
-    → (a b : FactSet) (f : ℕ) → has (record { low = op a.low b.low; high = op a.high b.high }) f ≡ o (has a f) (has b f)
+    → (a b r : FactSet) → r.low ≡ op a.low b.low → r.high ≡ op a.high b.high → (f : ℕ) → has r f ≡ o (has a f) (has b f)
 unfolding has
-has_op op o law none a b f =
-    rw (law a.low b.low f, law a.high b.high (f - 64))
+has_op op o law none a b r low high f =
+    rw (low, high, law a.low b.low f, law a.high b.high (f - 64))
     (choose (ltb f 64) (ltb f 128) (bit a.low f) (bit b.low f) (bit a.high (f - 64)) (bit b.high (f - 64)))
   where
     choose : (t w x y u v : Bool) → cond t (o x y) (cond w (o u v) false) ≡ o (cond t x (cond w u false)) (cond t y (cond w v false))
@@ -93,20 +93,20 @@ some_member s ne =
 -- the lowest member, by trailing zeros
 pub lowest_low : (s : FactSet) → s.low < 2 ^ 64 → (s.low ≡ 0 → ⊥) → Lowest (λ f. has s f ≡ true) (count_trailing_zeros 64 s.low)
 lowest_low s h ne =
-    let b = trailing_below 64 s.low h ne in (
-      has_low s (count_trailing_zeros 64 s.low) b ∙ at_trailing 64 s.low b,
-      λ k l. both_ways (has s k) (has_low s k (omega arith) ∙ before_trailing 64 s.low k l),
+    let (below, at, before) = trailing s.low h ne in (
+      has_low s (count_trailing_zeros 64 s.low) below ∙ at,
+      λ k l. both_ways (has s k) (has_low s k (omega arith) ∙ before k l),
     )
 
 pub lowest_high : (s : FactSet) → s.high < 2 ^ 64 → s.low ≡ 0 → (s.high ≡ 0 → ⊥) → Lowest (λ f. has s f ≡ true) (64 + count_trailing_zeros 64 s.high)
 lowest_high s h z ne =
-    let b = trailing_below 64 s.high h ne in
+    let (below, at, before) = trailing s.high h ne in
     let e : 64 + count_trailing_zeros 64 s.high - 64 ≡ count_trailing_zeros 64 s.high = omega arith in (
-      has_high s (64 + count_trailing_zeros 64 s.high) (omega arith) (omega arith) ∙ ap (bit s.high) e ∙ at_trailing 64 s.high b,
+      has_high s (64 + count_trailing_zeros 64 s.high) (omega arith) (omega arith) ∙ ap (bit s.high) e ∙ at,
       λ k l.
           elim (cases_lt k 64) [
             | inl u ↦ both_ways (has s k) (has_low s k u ∙ ap (λ (x : ℕ). bit x k) z ∙ bit_zero k)
-            | inr u ↦ both_ways (has s k) (has_high s k u (omega arith) ∙ before_trailing 64 s.high (k - 64) (omega arith))
+            | inr u ↦ both_ways (has s k) (has_high s k u (omega arith) ∙ before (k - 64) (omega arith))
           ],
     )
 

@@ -11,7 +11,7 @@ use Rattle.sets.specs.declared.jobs.JobSet.{JobSet}
 use Rattle.sets.specs.Digits.{bit}
 use Rattle.sets.specs.Jobs.{includes}
 use Rattle.sets.specs.Search.{Lowest}
-use Rattle.sets.proofs.DigitLaws.{bit-or, bit_pow, bit_zero, bit_shr, bit_past, trailing_below, at_trailing, before_trailing}
+use Rattle.sets.proofs.DigitLaws.{bit-or, bit_pow, bit_zero, bit_shr, bit_past, trailing}
 
 pub includes_insert : (ws : List ℕ) (j k : ℕ) → j / 64 < length ws
     → includes (record { words = set ws (j / 64) (bit_or (get_or ws (j / 64) 0) (2 ^ (j % 64))) }) k ≡ (includes (record { words = ws }) k || eqb k j)
@@ -26,15 +26,19 @@ includes_insert ws j k h =
           rw (get_or-set_other, d) (sym (or-false _))
     ]
 
-module _ (s : JobSet) (from w skip : ℕ) (short : skip < 64) (past : from ≤ 64 * w + skip) (low : w < 4) (fits : get_or s.words w 0 < 2 ^ 64)
-    (none : (j : ℕ) → from ≤ j → j < 64 * w + skip → includes s j ≡ false) where
+module _ (s : JobSet) (from w skip : ℕ) (skipped : skip ≡ from - 64 * w) (short : skip < 64) (low : w < 4) (fits : get_or s.words w 0 < 2 ^ 64)
+    (before : (j : ℕ) → from ≤ j → j < 64 * w → includes s j ≡ false) where
+  -- the jobs of word w that are skipped are below `from`
+  none : (j : ℕ) → from ≤ j → j < 64 * w + skip → includes s j ≡ false
+  none j h l = elim (cases_lt j (64 * w)) [ inl b ↦ before j h b | inr b ↦ absurd (omega arith) ]
+
   -- job 64 w + skip + k is digit k of the rest of its word
   at_rest : (j k : ℕ) → j ≡ 64 * w + skip + k → skip + k < 64 → includes s j ≡ bit (get_or s.words w 0 / 2 ^ skip) k
   unfolding includes
   at_rest j k e b =
       let d : j / 64 ≡ w = omega arith in let m : j % 64 ≡ skip + k = omega arith in rw (d, m) (sym (bit_shr (get_or s.words w 0) skip k))
 
-  pub word_none : get_or s.words w 0 / 2 ^ skip ≡ 0 → (j : ℕ) → from ≤ j → j < 64 * (w + 1) + 0 → includes s j ≡ false
+  pub word_none : get_or s.words w 0 / 2 ^ skip ≡ 0 → (j : ℕ) → from ≤ j → j < 64 * (w + 1) → includes s j ≡ false
   word_none z j h b =
       elim (cases_lt j (64 * w + skip)) [
         | inl l ↦ none j h l
@@ -46,8 +50,7 @@ module _ (s : JobSet) (from w skip : ℕ) (short : skip < 64) (past : from ≤ 6
   word_next ne =
       let n : ℕ = get_or s.words w 0 / 2 ^ skip in
       let le : n ≤ get_or s.words w 0 = shr_le (get_or s.words w 0) skip in
-      let b = trailing_below 64 n (omega arith) ne in
-      let yea = at_trailing 64 n b in
+      let (b, yea, off) = trailing n (omega arith) ne in
       let inside : skip + count_trailing_zeros 64 n < 64 =
       elim (cases_lt (skip + count_trailing_zeros 64 n) 64) [
         | inl l ↦ l
@@ -57,7 +60,7 @@ module _ (s : JobSet) (from w skip : ℕ) (short : skip < 64) (past : from ≤ 6
       λ j h l. elim (cases_lt j (64 * w + skip)) [
         | inl u ↦ none j h u
         | inr u ↦
-            at_rest j (j - (64 * w + skip)) (omega arith) (omega arith) ∙ before_trailing 64 n (j - (64 * w + skip)) (omega arith)
+            at_rest j (j - (64 * w + skip)) (omega arith) (omega arith) ∙ off (j - (64 * w + skip)) (omega arith)
       ] in (
         omega arith,
         (

@@ -2,8 +2,8 @@
 use Rattle.std.proofs.Common.{◌≡◌, ℕ, ◌+◌, ◌<◌, ◌≤◌, Bool, true, false, ◌&&◌, ◌||◌, eqb, List, length, get_or, Decides, sym, refl, ap, ◌∙◌, inl, inr, add-one}
 use mathlib.Core.Bool.{or-false, or_comm}
 use Rattle.std.proofs.lemmas.Bool.Decides.{Decides-below_or, Decides-like, same_from_decides}
-use Rattle.std.proofs.lemmas.Bool.{cases_lt, both_ways}
-use Rattle.sets.specs.Search.{any, listed}
+use Rattle.std.proofs.lemmas.Bool.{cases_lt, cases_order, both_ways}
+use Rattle.sets.specs.Search.{any, listed, Lowest}
 
 pub decides_any : (n : ℕ) (p : ℕ → Bool) → Decides (any n p) ((k : ℕ) × (k < n) × (p k ≡ true))
 unfolding any
@@ -49,3 +49,12 @@ listed_more xs i k before after t so_far more =
     joined true false true = refl
     joined true false false = refl
     joined false e b = sym (ap (λ (x : Bool). x && b) (or-false e))
+
+-- there is one lowest number
+pub lowest_one : (P : ℕ → Type 0) (j k : ℕ) → Lowest P j → Lowest P k → j ≡ k
+lowest_one P j k (here, first) (here', first') =
+    elim (cases_order j k) [
+      | inl same ↦ same
+      | inr (inl lt) ↦ absurd (first' j lt here)
+      | inr (inr gt) ↦ absurd (first k gt here')
+    ]

@@ -12,5 +12,5 @@ abbrev pub Ahead : Members → ℕ → Type 0
 Ahead s j = (s.from ≤ j) × (j < s.end) × (includes s.set j ≡ true)
 
 abbrev pub Rises : Members → Option ℕ → Members → Type 0
-Rises s None u = ((j : ℕ) → Ahead s j → ⊥) × (u ≡ s)
+Rises s None u = ((j : ℕ) → ¬ Ahead s j) × (u ≡ s)
 Rises s (Some j) u = Lowest (Ahead s) j × (u ≡ record { set = s.set; from = j + 1; end = s.end })

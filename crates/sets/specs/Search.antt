@@ -16,12 +16,12 @@ unfoldable pub listed : List ℕ → ℕ → Bool
 listed xs k = any (length xs) (λ i. nat_eq k (slice_index xs i))
 
 abbrev pub Lowest : (ℕ → Type 0) → ℕ → Type 0
-Lowest P k = P k × ((i : ℕ) → i < k → P i → ⊥)
+Lowest P k = P k × ((i : ℕ) → i < k → ¬ P i)
 
 abbrev pub Finds : (ℕ → Type 0) → Option ℕ → Type 0
-Finds P None = (k : ℕ) → P k → ⊥
+Finds P None = (k : ℕ) → ¬ P k
 Finds P (Some k) = Lowest P k
 
 abbrev pub FindsPair : (ℕ → ℕ → Type 0) → Option (ℕ × ℕ) → Type 0
-FindsPair P None = (j k : ℕ) → P j k → ⊥
+FindsPair P None = (j k : ℕ) → ¬ P j k
 FindsPair P (Some (j, k)) = Lowest (λ i. (l : ℕ) × P i l) j × Lowest (P j) k

@@ -4,7 +4,7 @@
 --   size s         how many facts the set s has
 --   Takes s r u    one step: the lowest of the facts left comes, and then it alone is gone; or none is
 --                  left, and nothing changes
-use Rattle.std.specs.Prelude.{◌≡◌, ℕ, zero, suc, ◌+◌, Bool, true, false, cond, not, ◌&&◌, Some, None, Option, ◌==◌}
+use Rattle.std.specs.Prelude.{◌≡◌, ℕ, zero, suc, ◌+◌, Bool, true, false, not, ◌&&◌, Some, None, Option, ◌==◌, if◌then◌else◌}
 use Rattle.sets.specs.declared.facts.FactSet.{FactSet}
 use Rattle.sets.specs.declared.walk.FactWalk.{FactWalk}
 use Rattle.sets.specs.Facts.{has}
@@ -12,7 +12,7 @@ use Rattle.sets.specs.Search.{Lowest}
 
 unfoldable pub count : (ℕ → Bool) → ℕ → ℕ
 count p zero = 0
-count p (suc n) = cond (p n) 1 0 + count p n
+count p (suc n) = (if p n then 1 else 0) + count p n
 
 unfoldable pub size : FactSet → ℕ
 size s = count (has s) 128

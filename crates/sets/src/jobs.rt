@@ -22,6 +22,7 @@ impl JobSet {
     pub fn of(jobs: &[u8]) -> JobSet
         ensures { (j : ℕ) → includes result j ≡ listed jobs.now j }
     {
+        // As in `FactSet::of`: a trait that says this once would be longer than both.
         let mut set = JobSet::empty();
         for job in jobs {
             set.insert(*job);
@@ -47,13 +48,14 @@ impl JobSet {
     pub fn next(&self, from: u16) -> Option<u8>
         ensures { Finds (λ j. (from ≤ j) × (includes self.now j ≡ true)) result }
     {
-        let mut skip = from % 64;
-        for w in from / 64..4 {
-            let rest = self.words[w as usize] >> skip;
-            if rest != 0 {
-                return Some((64 * w + skip + rest.trailing_zeros() as u16) as u8);
+        for (w, word) in self.words.iter().enumerate() {
+            let skip = from.saturating_sub(64 * w as u16);
+            if skip < 64 {
+                let rest = *word >> skip;
+                if rest != 0 {
+                    return Some((64 * w as u16 + skip + rest.trailing_zeros() as u16) as u8);
+                }
             }
-            skip = 0;
         }
         None
     }

@@ -41,12 +41,8 @@ impl Iterator for Members {
     ghost remaining = { λ s. at_most (256 - s.from) };
 
     fn next(&mut self) -> Option<u8> {
-        match self.set.next(self.from) {
-            Some(job) if job < self.end => {
-                self.from = job as u16 + 1;
-                Some(job)
-            }
-            _ => None,
-        }
+        let job = self.set.next(self.from).filter(|job| *job < self.end)?;
+        self.from = job as u16 + 1;
+        Some(job)
     }
 }

@@ -28,10 +28,8 @@ impl Iterator for FactWalk {
     ghost remaining = { λ s. at_most (size s.left) };
 
     fn next(&mut self) -> Option<u8> {
-        let lowest = self.left.lowest();
-        if let Some(fact) = lowest {
-            self.left = self.left.minus(FactSet::single(fact));
-        }
-        lowest
+        let fact = self.left.lowest()?;
+        self.left = self.left.minus(FactSet::single(fact));
+        Some(fact)
     }
 }
