@@ -17,7 +17,7 @@
 --   GoalAt T R t       the goal is reached at layer t
 --   Distance T R d     d is the first layer at which the goal is reached
 --   Stable T R t       layer t equals its next
-use Rattle.std.specs.Prelude.{◌≡◌, ℕ, zero, suc, ◌<◌, true, false, ◌≢◌, ◌⊎◌, Some}
+use Rattle.std.specs.Prelude.{◌≡◌, ℕ, zero, suc, ◌<◌, true, false, ◌≢◌, ◌⊎◌, Some, ⊤}
 use Rattle.sets.specs.Facts.{has}
 use Rattle.sets.specs.Search.{Lowest}
 use Rattle.strips.specs.declared.job.Job.{Job}
@@ -50,7 +50,7 @@ abbrev pub Together : Says → Maker → Maker → Type 0
 Together R (doing j a) (doing k b) = (j ≢ k) × (R a b ≡ true)
 Together R (doing j a) (keeping q) = has a.deletes q ≡ false
 Together R (keeping q) (doing k b) = has b.deletes q ≡ false
-Together R (keeping p) (keeping q) = Unit {0}
+Together R (keeping p) (keeping q) = ⊤
 
 pub data Enters (T : Meaning) (R : Says) (L : Pairs) (p q : ℕ) : Type 0 where
   by_one : (j : ℕ) (a : Job) → T.job j ≡ Some a

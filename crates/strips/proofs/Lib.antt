@@ -1,8 +1,6 @@
 pub mod Linear
-mod LoadedLaws
-mod MemberLaws
+pub mod MemberLaws
 pub mod Orders
 pub mod PartLaws
 mod RoundLaws
 mod SetLaws
-pub mod WalkLaws

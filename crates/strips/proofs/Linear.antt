@@ -2,6 +2,7 @@
 use Rattle.std.proofs.Common.{◌≡◌, ℕ, Bool, true, false, not, ◌&&◌, ◌||◌, ◌≢◌, ◌⊎◌, List, [], ◌∷◌, ◌++◌, Some, Option, sym, refl, ap, ◌∙◌, subst, ap₂, inl, inr}
 use mathlib.Core.Path.{fun_ext}
 use Rattle.std.proofs.lemmas.Bool.{both_ways, cases_Bool, and_from, or_cases, or_left, or_right}
+use Rattle.std.specs.Cmp.{both_ways as same_tests}
 use Rattle.sets.specs.declared.facts.FactSet.{FactSet}
 use Rattle.sets.specs.Facts.{has}
 use Rattle.strips.specs.declared.job.Job.{Job}
@@ -11,7 +12,7 @@ use Rattle.strips.specs.Rules.{Says, Lawful}
 use Rattle.strips.specs.Rounds.{State, Round, Holds, Allowed, in_part, some_job, result, PlanFrom}
 use Rattle.strips.specs.Singly.{done, Singly, Among, Once, OrderOf, FreeOrder}
 use Rattle.strips.specs.Linear.{PlansAreLinear}
-use Rattle.strips.proofs.PartLaws.{part_found, some_found, some_made, same_tests}
+use Rattle.strips.proofs.PartLaws.{part_found, some_found, some_made}
 
 -- one job before the others, at one fact: s is the state, d and a what the job deletes and adds, A and
 -- D what the others add and delete

@@ -1,5 +1,5 @@
 -- The laws of `some_job`: which facts the jobs of a round add, or delete.
-use Rattle.std.proofs.Common.{◌≡◌, ℕ, ◌<◌, Bool, true, false, ◌&&◌, Some, None, Option, sym, refl, subst, inl, inr, arith}
+use Rattle.std.proofs.Common.{◌≡◌, ℕ, ◌<◌, true, false, ◌&&◌, Some, None, Option, sym, refl, subst, inl, inr, arith}
 use Rattle.std.proofs.lemmas.Bool.{both_ways, cases_lt, and_parts, and_from}
 use Rattle.sets.specs.declared.facts.FactSet.{FactSet}
 use Rattle.sets.specs.Facts.{has}
@@ -7,11 +7,6 @@ use Rattle.sets.proofs.SearchLaws.{decides_any}
 use Rattle.strips.specs.declared.job.Job.{Job}
 use Rattle.strips.specs.Tasks.{Meaning, Admitted}
 use Rattle.strips.specs.Rounds.{Round, in_part, some_job}
-
-pub same_tests : (x y : Bool) → (x ≡ true → y ≡ true) → (y ≡ true → x ≡ true) → x ≡ y
-same_tests true y to from = sym (to refl)
-same_tests false true to from = from refl
-same_tests false false to from = refl
 
 -- a present job has a number below m
 pub present_below : (T : Meaning) → Admitted T → (j : ℕ) (a : Job) → T.job j ≡ Some a → j < T.m

@@ -2,8 +2,8 @@
 use Rattle.std.specs.Prelude.{◌≡◌, ℕ, Bool, true, false, not, ◌&&◌, ◌||◌, ◌⊎◌, Decides, ◌==◌, refl}
 use Rattle.std.proofs.Common.{sym, ap, ap₂, ◌∙◌, inl, inr}
 use Rattle.std.proofs.Math.Bool.{or_comm}
-use Rattle.std.proofs.lemmas.Bool.{and_parts, and_from, or_cases, or_left, or_right, both_ways, cases_Bool, eq-eqb, eqb-true, not-true, not_from_true, not_from_false}
-use Rattle.std.proofs.lemmas.Bool.Decides.{Decides-or, Decides-not}
+use Rattle.std.proofs.lemmas.Bool.{and_parts, and_from, or_cases, or_left, or_right, both_ways, cases_Bool, not-true, not_from_true, not_from_false}
+use Rattle.std.proofs.lemmas.Bool.Decides.{Decides-or, Decides-not, Decides-eqb, Decides-like, same_from_decides}
 use Rattle.sets.specs.declared.facts.FactSet.{FactSet}
 use Rattle.sets.specs.Facts.{has}
 use Rattle.sets.proofs.FactLaws.{has_below}
@@ -69,15 +69,7 @@ pub single_file_lawful : Lawful single_file
 single_file_lawful = record { symmetric = λ a b. refl; harmless = λ a b e w. both_ways false refl e }
 
 equal_swap : (x y : ℕ) → (x == y) ≡ (y == x)
-equal_swap x y =
-    elim (cases_Bool (x == y)) [
-      | inl e ↦ e ∙ sym (eq-eqb y x (sym (eqb-true x y e)))
-      | inr e ↦
-          elim (cases_Bool (y == x)) [
-            | inl e' ↦ absurd (both_ways (x == y) e (eq-eqb x y (sym (eqb-true y x e'))))
-            | inr e' ↦ e ∙ sym e'
-          ]
-    ]
+equal_swap x y = same_from_decides _ _ (Decides-eqb x y) (Decides-like (y == x) sym sym (Decides-eqb y x))
 
 zones_swap : (a b : Job) → zones_agree a b ≡ zones_agree b a
 zones_swap a b = ap₂ ◌||◌ (ap not (equal_swap a.zone b.zone)) (or_comm (a.zone == 0) (b.zone == 0))

@@ -6,7 +6,7 @@
 --   PlansAreLinear       so it is for every plan, of every admitted task, under every lawful rule
 --   RoundsHaveOrders     every list of rounds that name finitely many jobs has a free order, so that
 --                        the statement above is not empty
-use Rattle.std.specs.Prelude.{◌≡◌, ℕ, ◌<◌, true, List, [], ◌∷◌}
+use Rattle.std.specs.Prelude.{◌≡◌, ℕ, ◌<◌, true, List, [], ◌∷◌, ⊤}
 use Rattle.sets.specs.Facts.{has}
 use Rattle.strips.specs.Tasks.{Meaning, Admitted}
 use Rattle.strips.specs.Rules.{Says, Lawful}
@@ -17,7 +17,7 @@ abbrev pub Linear : Meaning → List Round → Type 0
 Linear T rs = (e : State) × Holds e T.goal × ((js : List ℕ) → FreeOrder rs js → Singly T (has T.start) js e)
 
 abbrev pub Numbered : ℕ → List Round → Type 0
-Numbered m [] = Unit {0}
+Numbered m [] = ⊤
 Numbered m (r ∷ rs) = ((j : ℕ) → r j ≡ true → j < m) × Numbered m rs
 
 abbrev pub PlansAreLinear : Type 0

@@ -15,7 +15,7 @@ Says = Job → Job → Bool
 
 pub record Lawful (R : Says) : Type 0 where
   pub symmetric : (a b : Job) → R a b ≡ R b a
-  pub harmless : (a b : Job) → R a b ≡ true → Interferes a b → ⊥
+  pub harmless : (a b : Job) → R a b ≡ true → ¬ Interferes a b
 
 abbrev pub apart : Says
 apart a b = not (interferes a b)

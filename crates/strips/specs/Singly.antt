@@ -7,7 +7,7 @@
 --   OrderOf r js       js has each job of round r once, in some order
 --   FreeOrder rs js    js goes round by round and takes each job of a round once, in any order inside
 --                      the round
-use Rattle.std.specs.Prelude.{◌≡◌, ℕ, true, not, ◌&&◌, ◌||◌, ◌⊎◌, List, [], ◌∷◌, ◌++◌, Some}
+use Rattle.std.specs.Prelude.{◌≡◌, ℕ, true, not, ◌&&◌, ◌||◌, ◌⊎◌, List, [], ◌∷◌, ◌++◌, Some, ⊤}
 use Rattle.sets.specs.Facts.{has}
 use Rattle.strips.specs.declared.job.Job.{Job}
 use Rattle.strips.specs.Tasks.{Meaning}
@@ -26,8 +26,8 @@ Among j [] = ⊥
 Among j (k ∷ ks) = (j ≡ k) ⊎ Among j ks
 
 abbrev pub Once : List ℕ → Type 0
-Once [] = Unit {0}
-Once (j ∷ js) = (Among j js → ⊥) × Once js
+Once [] = ⊤
+Once (j ∷ js) = (¬ Among j js) × Once js
 
 pub record OrderOf (r : Round) (js : List ℕ) : Type 0 where
   pub once : Once js

@@ -27,12 +27,7 @@ impl<'a> Task for Loaded<'a> {
     }
 
     fn m(&self) -> u8 {
-        let m = self.header.m();
-        if self.rows.len() < m as usize {
-            self.rows.len() as u8
-        } else {
-            m
-        }
+        self.rows.len().min(self.header.m() as usize) as u8
     }
 
     fn start(&self) -> FactSet {

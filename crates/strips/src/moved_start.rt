@@ -18,6 +18,7 @@ impl<B: Task> Task for MovedStart<B> {
 
     ghost admitted = { λ s. moved_admitted s.start (B.Task.meaning s.below) (B.Task.admitted s.below) };
 
+    // What stays as it is below is handed on answer by answer: a trait knows no shorter way.
     fn n(&self) -> u8 {
         self.below.n()
     }

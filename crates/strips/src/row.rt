@@ -5,6 +5,7 @@ ghost use Rattle.std.specs.Prelude.{◌≡◌};
 use crate::job::Job;
 use sets::facts::FactSet;
 
+// The parts of a `Job` in a type of their own, so that a row is not taken for the job that it stands for.
 /// A job as it was read: it may name facts that the task doesn't have, and one fact in both adds and
 /// deletes.
 #[derive(Clone, Copy)]

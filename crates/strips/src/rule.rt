@@ -17,5 +17,5 @@ pub trait Rule {
 
     ghost symmetric: { (x : Self) (a b : Job) → shares x a b ≡ shares x b a };
 
-    ghost harmless: { (x : Self) (a b : Job) → shares x a b ≡ true → Interferes a b → ⊥ };
+    ghost harmless: { (x : Self) (a b : Job) → shares x a b ≡ true → ¬ Interferes a b };
 }

@@ -1,5 +1,5 @@
 //! The three sharing rules.
-ghost use Rattle.std.specs.Prelude.{◌≡◌, Decides};
+ghost use Rattle.std.specs.Prelude.{◌≡◌, IsTrue, ◌↔◌};
 ghost use Rattle.strips.specs.Jobs.{Interferes};
 ghost use Rattle.strips.specs.Rules.{apart, single_file, zoned, zones_agree, ZonesAgree};
 ghost use Rattle.strips.specs.JobLaws.{apart_lawful, single_file_lawful, zoned_lawful};
@@ -20,7 +20,7 @@ impl Rule for Apart {
 
     fn may_share(&self, a: &Job, b: &Job) -> bool
         ensures value { result ≡ apart a.now b.now }
-        ensures decides { Decides result (Interferes a.now b.now → ⊥) }
+        ensures decides { IsTrue result ↔ (¬ Interferes a.now b.now) }
     {
         !a.interferes(b)
     }
@@ -55,7 +55,7 @@ impl Rule for Zoned {
 
     fn may_share(&self, a: &Job, b: &Job) -> bool
         ensures value { result ≡ zoned a.now b.now }
-        ensures decides { Decides result ((Interferes a.now b.now → ⊥) × ZonesAgree a.now b.now) }
+        ensures decides { IsTrue result ↔ ((¬ Interferes a.now b.now) × ZonesAgree a.now b.now) }
     {
         Apart.may_share(a, b) && zones_agree(a, b)
     }

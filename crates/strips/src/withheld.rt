@@ -19,6 +19,7 @@ impl<B: Task> Task for Withheld<B> {
 
     ghost admitted = { λ s. withheld_admitted s.marks (B.Task.meaning s.below) (B.Task.admitted s.below) };
 
+    // What stays as it is below is handed on answer by answer: a trait knows no shorter way.
     fn n(&self) -> u8 {
         self.below.n()
     }
