@@ -1,137 +1,100 @@
--- The searches of one round, step by step.
-use Rattle.std.proofs.Common.{◌≡◌, ℕ, ◌+◌, ◌<◌, ◌≤◌, Bool, true, false, not, ◌&&◌, ◌⊎◌, is_some, Some, None, Option, sym, refl, ap, ◌∙◌, subst, inl, inr, arith}
+-- What the searches of one round find, and what that says of the round.
+use Rattle.std.proofs.Common.{◌≡◌, ℕ, ◌+◌, ◌<◌, ◌≤◌, true, false, not, ◌&&◌, ◌⊎◌, Some, None, Option, MatchOption, sym, refl, ◌∙◌, subst, inl, inr, arith, ap}
 use Rattle.std.proofs.lemmas.Bool.{both_ways, cases_Bool, cases_order, and_parts, and_from, not-true, not_from_false}
+use Rattle.std.proofs.lemmas.Option.{same_Some, none-some}
 use Rattle.sets.specs.declared.facts.FactSet.{FactSet}
 use Rattle.sets.specs.declared.jobs.JobSet.{JobSet}
 use Rattle.sets.specs.declared.members.Members.{Members}
 use Rattle.sets.specs.Facts.{has}
-use Rattle.sets.specs.Members.{Rises}
-use Rattle.sets.specs.Search.{Lowest, Finds, FindsPair}
+use Rattle.sets.specs.Members.{Ahead}
+use Rattle.sets.specs.Search.{Finds, FindsPair}
 use Rattle.strips.specs.declared.job.Job.{Job}
 use Rattle.strips.specs.Tasks.{Meaning}
 use Rattle.strips.specs.Rules.{Says}
 use Rattle.strips.specs.Rounds.{State, Round, Holds, round_of, Allowed}
-use Rattle.strips.proofs.WalkLaws.{Passed, passed_none, passed_here, passed_first, passed_more, passed_all}
+use Rattle.strips.proofs.MemberLaws.{ahead, in_round}
 use Rattle.verdicts.specs.declared.verdict.Verdict.{Verdict}
+use Rattle.verdicts.specs.Searches.{FirstAbsent, FirstPartner, FirstJoined}
 use Rattle.verdicts.specs.Judging.{Absent, Partner, Joined, Clashing, Lacks, Lacking, Fault, closed, clash, missing}
-
-some_none : {A : Type 0} {x : A} {P : Type 0} (o : Option A) → o ≡ Some x → o ≡ None → P
-some_none o e n = let z : ◌≡◌ {A = ℕ} 0 1 = cc in absurd (omega arith)
-
-some_same : {A : Type 0} {x y : A} (o : Option A) → o ≡ Some x → o ≡ Some y → x ≡ y
-some_same o e n = cc
 
 here_or_not : {A : Type 0} (o : Option A) → ((x : A) × (o ≡ Some x)) ⊎ (o ≡ None)
 here_or_not (Some x) = inl (x, refl)
 here_or_not None = inr refl
 
-not_some : {A : Type 0} (o : Option A) → is_some o ≡ false → o ≡ None
-not_some (Some x) e = absurd (both_ways true e refl)
-not_some None e = refl
+-- two tests that hold of the same numbers find the same
+finds_same : (P Q : ℕ → Type 0) (o : Option ℕ) → ((k : ℕ) → P k → Q k) → ((k : ℕ) → Q k → P k) → Finds P o → Finds Q o
+finds_same P Q None to back none = λ k q. none k (back k q)
+finds_same P Q (Some k) to back (here, first) = (to k here, λ i lt q. first i lt (back i q))
 
--- a walk from 0 has passed nothing yet
-pub walk_starts : (T : Meaning) (place : JobSet) (P : ℕ → Type 0) (s : Members) (m : ℕ) → s ≡ record { set = place; from = 0; end = m } → m ≡ T.m
-    → Passed 0 T.m place P s
-walk_starts T place P s m is m_is = passed_none 0 T.m place P s m is m_is (λ k lt. absurd (omega arith))
+-- a walk s over the numbers of a place from `from` up and below m: they are ahead exactly if they are of the round
+module _ (T : Meaning) {place : JobSet} {from m : ℕ} {s : Members} (is : s ≡ record { set = place; from = from; end = m }) (m_is : m ≡ T.m) where
+  set_is : s.set ≡ place
+  set_is = ap (λ (v : Members). v.set) is
 
--- a walk in search of the lowest absent job; o is what the task answers
-module _ (T : Meaning) (place : JobSet) (s u : Members) (j : ℕ) (o : Option Job) (so_far : Passed 0 T.m place (Absent T (round_of T.m place)) s)
-    (step : Rises s (Some j) u) (is : o ≡ T.job j) where
-  pub absent_found : is_some o ≡ false → Lowest (Absent T (round_of T.m place)) j
-  absent_found none =
-      passed_first 0 T.m place (Absent T (round_of T.m place)) (λ i p. p.0) s so_far u j step
-      ((passed_here 0 T.m place (Absent T (round_of T.m place)) s u j so_far step).1, sym is ∙ not_some o none)
+  end_is : s.end ≡ T.m
+  end_is = ap (λ (v : Members). v.end) is ∙ m_is
 
-  pub absent_free : is_some o ≡ true → Passed 0 T.m place (Absent T (round_of T.m place)) u
-  absent_free some =
-      passed_more 0 T.m place (Absent T (round_of T.m place)) (λ i p. p.0) s so_far u j step
-      (λ absent. both_ways true (sym some ∙ ap is_some (is ∙ absent.1)) refl)
+  from_is : s.from ≡ from
+  from_is = ap (λ (v : Members). v.from) is
 
-pub absent_none : (T : Meaning) (place : JobSet) (s u : Members) → Passed 0 T.m place (Absent T (round_of T.m place)) s → Rises s None u
-    → (j : ℕ) → Absent T (round_of T.m place) j → ⊥
-absent_none T place s u so_far step = passed_all 0 T.m place (Absent T (round_of T.m place)) (λ i p. p.0) s so_far u step
+  of_round : (k : ℕ) → Ahead s k → (from ≤ k) × (round_of T.m place k ≡ true)
+  of_round k here = let start = from_is in let le = here.0 in (omega arith, in_round T.m place s set_is end_is k here)
 
--- a walk in search of the lowest job that is joined to something
-module _ (T : Meaning) (place : JobSet) (To : ℕ → Job → ℕ → Type 0) where
-  abbrev pub Found : ℕ → Type 0
-  Found j = (k : ℕ) × Joined T (round_of T.m place) To j k
+  to_come : (k : ℕ) → from ≤ k → round_of T.m place k ≡ true → Ahead s k
+  to_come k le there = ahead T.m place s set_is end_is k (let start = from_is in omega arith) there
 
-  module _ (s u : Members) (j : ℕ) (so_far : Passed 0 T.m place Found s) where
-    pub pair_found : (a : Job) (k : ℕ) → Rises s (Some j) u → Some a ≡ T.job j → Lowest (To j a) k
-        → FindsPair (Joined T (round_of T.m place) To) (Some (j, k))
-    pair_found a k step is (joined, first) =
-        let there = (passed_here 0 T.m place Found s u j so_far step).1 in
-        let whole : Joined T (round_of T.m place) To j k = (there, (a, sym is, joined)) in (
-          passed_first 0 T.m place Found (λ i p. p.1.0) s so_far u j step (k, whole),
-          (
-            whole,
-            λ i lt other.
-                let (b, b-is, b-joined) = other.1 in
-                first i lt (subst (λ (x : Job). To j x i) (some_same (T.job j) b-is (sym is)) b-joined),
-          ),
-        )
+  pub finds_absent : from ≡ 0 → (o : Option ℕ) → Finds (λ k. Ahead s k × (T.job k ≡ None)) o → FirstAbsent T place o
+  finds_absent start o =
+      finds_same (λ k. Ahead s k × (T.job k ≡ None)) (Absent T (round_of T.m place)) o
+      (λ k (here, none). ((of_round k here).1, none)) (λ k (there, none). (to_come k (omega arith) there, none))
 
-    pub pair_free : (a : Job) → Rises s (Some j) u → Some a ≡ T.job j → ((k : ℕ) → To j a k → ⊥) → Passed 0 T.m place Found u
-    pair_free a step is none =
-        passed_more 0 T.m place Found (λ i p. p.1.0) s so_far u j step
-        (λ found.
-        let (k, joined) = found in
-        let (b, b-is, b-joined) = joined.1 in
-        none k (subst (λ (x : Job). To j x k) (some_same (T.job j) b-is (sym is)) b-joined))
+  pub finds_partner : (R : Says) (j : ℕ) (a : Job) → from ≡ j + 1 → (o : Option ℕ)
+      → Finds (λ k. Ahead s k × ((b : Job) × (T.job k ≡ Some b) × (R a b ≡ false))) o → FirstPartner T R place j a o
+  finds_partner R j a start o =
+      finds_same (λ k. Ahead s k × ((b : Job) × (T.job k ≡ Some b) × (R a b ≡ false))) (Partner T R (round_of T.m place) j a) o
+      (λ k (here, apart). let (le, there) = of_round k here in (omega arith, there, apart))
+      (λ k (lt, there, apart). (to_come k (omega arith) there, apart))
 
-    pub pair_absent : Rises s (Some j) u → None ≡ T.job j → Passed 0 T.m place Found u
-    pair_absent step is =
-        passed_more 0 T.m place Found (λ i p. p.1.0) s so_far u j step
-        (λ found. let (k, joined) = found in some_none (T.job j) joined.1.1 (sym is))
+  pub finds_joined : {Gives : ℕ → Job → Option ℕ → Type 0} {Misses : ℕ → Type 0} {Hits : ℕ → ℕ × ℕ → Type 0} {o : Option (ℕ × ℕ)} → from ≡ 0
+      → MatchOption o ((k : ℕ) → Ahead s k → Misses k) (λ y. (x : ℕ) × Ahead s x × Hits x y × ((k : ℕ) → k < x → Ahead s k → Misses k))
+      → ((k : ℕ) → Misses k → (a : Job) → T.job k ≡ Some a → Gives k a None)
+      → ((k : ℕ) (y : ℕ × ℕ) → Hits k y → (y.0 ≡ k) × ((a : Job) × (T.job k ≡ Some a) × Gives k a (Some y.1)))
+      → FirstJoined T place Gives o
+  finds_joined {o = None} start none miss hit =
+      record { joined = tt; first = λ i _ a there is'. miss i (none i (to_come i (omega arith) there)) a is' }
+  finds_joined {Gives = Gives} {o = Some (j, k)} start (x, here, hits, none) miss hit =
+      let (same, (a, a-is, given)) = hit x (j, k) hits in
+      record {
+        joined = subst (λ (i : ℕ). Joined T (round_of T.m place) (λ h b l. Gives h b (Some l)) i k) (sym same) ((of_round x here).1, (a, a-is, given));
+        first = λ i lt b there b-is. miss i (none i (omega arith) (to_come i (omega arith) there)) b b-is;
+      }
 
-  pub pair_none : (s u : Members) → Passed 0 T.m place Found s → Rises s None u → FindsPair (Joined T (round_of T.m place) To) None
-  pair_none s u so_far step j k joined =
-      passed_all 0 T.m place Found (λ i p. p.1.0) s so_far u step j (k, joined)
-
--- a walk in search of the lowest partner of job a, numbered j
-module _ (T : Meaning) (R : Says) (place : JobSet) (j : ℕ) (a : Job) where
-  abbrev pub Sought : ℕ → Type 0
-  Sought = Partner T R (round_of T.m place) j a
-
-  pub partner_starts : (s : Members) (m : ℕ) → s ≡ record { set = place; from = j + 1; end = m } → m ≡ T.m → Passed (j + 1) T.m place Sought s
-  partner_starts s m is m_is = passed_none (j + 1) T.m place Sought s m is m_is (λ k lt p. let above : j < k = p.0 in omega arith)
-
-  module _ (s u : Members) (k : ℕ) (so_far : Passed (j + 1) T.m place Sought s) (step : Rises s (Some k) u) where
-    pub partner_found : (b : Job) (answer : Bool) → Some b ≡ T.job k → answer ≡ R a b → answer ≡ false → Lowest Sought k
-    partner_found b answer is asked no' =
-        let here = passed_here (j + 1) T.m place Sought s u k so_far step in
-        let above : j + 1 ≤ k = here.0 in
-        passed_first (j + 1) T.m place Sought (λ i p. p.1) s so_far u k step (omega arith, here.1, (b, sym is, sym asked ∙ no'))
-
-    pub partner_free : (b : Job) (answer : Bool) → Some b ≡ T.job k → answer ≡ R a b → answer ≡ true → Passed (j + 1) T.m place Sought u
-    partner_free b answer is asked yes' =
-        passed_more (j + 1) T.m place Sought (λ i p. p.1) s so_far u k step
-        (λ p.
-        let (d, d-is, no') = p.2 in
-        both_ways (R a b) (subst (λ (x : Job). R a x ≡ false) (some_same (T.job k) d-is (sym is)) no') (sym asked ∙ yes'))
-
-    pub partner_absent : None ≡ T.job k → Passed (j + 1) T.m place Sought u
-    partner_absent is =
-        passed_more (j + 1) T.m place Sought (λ i p. p.1) s so_far u k step
-        (λ p. let (d, d-is, no') = p.2 in some_none (T.job k) d-is (sym is))
-
-  pub partner_none : (s u : Members) → Passed (j + 1) T.m place Sought s → Rises s None u → (k : ℕ) → Sought k → ⊥
-  partner_none s u so_far step = passed_all (j + 1) T.m place Sought (λ i p. p.1) s so_far u step
+-- where each answer finds what a job is joined to, the lowest job answered with a number is the lowest joined
+pub joined_finds : (To : ℕ → Job → ℕ → Type 0) {T : Meaning} {place : JobSet} {Gives : ℕ → Job → Option ℕ → Type 0} {o : Option (ℕ × ℕ)}
+    → FirstJoined T place Gives o → ((j : ℕ) (a : Job) (p : Option ℕ) → Gives j a p → Finds (To j a) p)
+    → FindsPair (Joined T (round_of T.m place) To) o
+joined_finds To {o = None} said finds =
+    λ j k (there, (a, is, joined)). finds j a None (said.first j tt a there is) k joined
+joined_finds To {T = T} {o = Some (j, k)} said finds =
+    let (there, (a, is, given)) = said.joined in
+    let (joined, first) = finds j a (Some k) given in (
+      (
+        (k, (there, (a, is, joined))),
+        λ i lt (l, (also, (b, b-is, other))). finds i b None (said.first i lt b also b-is) l other,
+      ),
+      (
+        (there, (a, is, joined)),
+        λ i lt (_, (b, b-is, other)). first i lt (subst (λ (x : Job). To j x i) (same_Some b a (sym b-is ∙ is)) other),
+      ),
+    )
 
 -- the facts of y that a state lacks, as a set x
 pub finds_lacks : (x y state : FactSet) (o : Option ℕ) → ((f : ℕ) → has x f ≡ (has y f && not (has state f)))
     → Finds (λ f. has x f ≡ true) o → Finds (Lacks (has state) y) o
-finds_lacks x y state o is = go o
-  where
-    lacks : (f : ℕ) → has x f ≡ true → Lacks (has state) y f
-    lacks f h = let (p, q) = and_parts (has y f) (not (has state f)) (sym (is f) ∙ h) in (p, not-true (has state f) q)
-
-    back : (f : ℕ) → Lacks (has state) y f → has x f ≡ true
-    back f (p, q) = is f ∙ and_from (has y f) (not (has state f)) p (not_from_false (has state f) q)
-
-    go : (o : Option ℕ) → Finds (λ f. has x f ≡ true) o → Finds (Lacks (has state) y) o
-    go (Some f) (there, first) = (lacks f there, λ i lt p. first i lt (back i p))
-    go None none = λ f p. none f (back f p)
+finds_lacks x y state o is =
+    finds_same (λ f. has x f ≡ true) (Lacks (has state) y) o
+    (λ f h. let (p, q) = and_parts (has y f) (not (has state f)) (sym (is f) ∙ h) in (p, not-true (has state f) q))
+    (λ f (p, q). is f ∙ and_from (has y f) (not (has state f)) p (not_from_false (has state f) q))
 
 pub holds_all : (s : State) (x : FactSet) → ((f : ℕ) → Lacks s x f → ⊥) → Holds s x
 holds_all s x none f h = elim (cases_Bool (s f)) [ inl e ↦ e | inr e ↦ absurd (none f (h, e)) ]
@@ -159,7 +122,7 @@ module _ (T : Meaning) (R : Says) (s : State) (r : Round) (swap : (a b : Job) �
 module _ (T : Meaning) (R : Says) where
   pub fault_not_allowed : (s : State) (i : ℕ) (r : Round) (v : Verdict) → Fault T R s i r v → Allowed T R s r → ⊥
   fault_not_allowed s i r v (closed j ((there, none), _) e) ok =
-      let (a, is) = ok.present j there in let z : ◌≡◌ {A = ℕ} 0 1 = cc in omega arith
+      let (a, is) = ok.present j there in none-some a (sym none ∙ is)
   fault_not_allowed s i r v (clash j k _ _ ((there, (a, ja, (lt, also, (b, kb, no')))), _) e) ok =
       both_ways (R a b) no' (ok.shared j k a b there also (omega arith) ja kb)
   fault_not_allowed s i r v (missing j f _ _ _ ((there, (a, ja, (needs, lacks))), _) e) ok = both_ways (s f) lacks (ok.held j a there ja f needs)

@@ -1,7 +1,8 @@
 -- A list of rounds has one verdict.
 use Rattle.std.proofs.Common.{◌≡◌, ℕ, ◌+◌, List, [], ◌∷◌, codes, sym, ap, ◌∙◌, subst, inl, inr}
-use Rattle.std.proofs.lemmas.Bool.{both_ways, cases_order}
+use Rattle.std.proofs.lemmas.Bool.{both_ways}
 use Rattle.sets.specs.Search.{Lowest}
+use Rattle.sets.proofs.SearchLaws.{lowest_one}
 use Rattle.strips.specs.Tasks.{Meaning}
 use Rattle.strips.specs.Rules.{Says}
 use Rattle.strips.specs.Rounds.{State, Round, result}
@@ -9,14 +10,6 @@ use Rattle.verdicts.specs.declared.verdict.Verdict.{Verdict}
 use Rattle.verdicts.specs.Verdicts.{told}
 use Rattle.verdicts.specs.Judging.{Fault, closed, clash, missing, Ended, goal, sound, JudgedFrom, Clashing, Lacking}
 use Rattle.verdicts.proofs.FaultLaws.{fault_not_allowed}
-
-lowest_one : (P : ℕ → Type 0) (j k : ℕ) → Lowest P j → Lowest P k → j ≡ k
-lowest_one P j k (here, first) (here', first') =
-    elim (cases_order j k) [
-      | inl same ↦ same
-      | inr (inl lt) ↦ absurd (first' j lt here)
-      | inr (inr gt) ↦ absurd (first k gt here')
-    ]
 
 -- two pairs, each of the lowest that are joined
 pair_one : (P : ℕ → ℕ → Type 0) (i j k j' k' : ℕ) → Lowest (λ h. (l : ℕ) × P h l) j → Lowest (P j) k → Lowest (λ h. (l : ℕ) × P h l) j' → Lowest (P j') k'

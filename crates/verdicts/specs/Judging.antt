@@ -41,10 +41,10 @@ Lacking T s r = Joined T r (λ j a. Lacks s a.needs)
 pub data Fault (T : Meaning) (R : Says) (s : State) (i : ℕ) (r : Round) (v : Verdict) : Type 0 where
   closed : (j : ℕ) → Lowest (Absent T r) j
       → told v ≡ (codes "closed", i ∷ j ∷ []) → Fault T R s i r v
-  clash : (j k : ℕ) → ((h : ℕ) → Absent T r h → ⊥)
+  clash : (j k : ℕ) → ((h : ℕ) → ¬ Absent T r h)
       → Lowest (λ h. (l : ℕ) × Clashing T R r h l) j → Lowest (Clashing T R r j) k
       → told v ≡ (codes "clash", i ∷ j ∷ k ∷ []) → Fault T R s i r v
-  missing : (j f : ℕ) → ((h : ℕ) → Absent T r h → ⊥) → ((h l : ℕ) → Clashing T R r h l → ⊥)
+  missing : (j f : ℕ) → ((h : ℕ) → ¬ Absent T r h) → ((h l : ℕ) → ¬ Clashing T R r h l)
       → Lowest (λ h. (g : ℕ) × Lacking T s r h g) j → Lowest (Lacking T s r j) f
       → told v ≡ (codes "missing", i ∷ j ∷ f ∷ []) → Fault T R s i r v
 

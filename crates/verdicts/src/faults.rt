@@ -1,6 +1,6 @@
 //! The first fault of one round.
 ghost use Rattle.sets.specs.Facts.{has};
-ghost use Rattle.verdicts.specs.Searches.{FirstAbsent, FirstPartner, FirstClash, FirstLacking, FirstFault};
+ghost use Rattle.verdicts.specs.Searches.{FirstAbsent, FirstPartner, FirstJoined, FirstClash, FirstLacking, FirstFault};
 
 use crate::verdict::Verdict;
 use sets::facts::FactSet;
@@ -9,89 +9,80 @@ use strips::job::Job;
 use strips::rule::Rule;
 use strips::task::Task;
 
-/// The lowest job of the round that is absent.
-fn first_absent<S: Task>(task: &S, place: &JobSet) -> Option<u8>
-    ensures { FirstAbsent (S.Task.meaning task.now) place.now result }
-{
-    for j in place.below(task.m()) {
-        if task.job(j).is_none() {
-            return Some(j);
-        }
-    }
-    None
+/// A round to be judged: the jobs that a place of a sheet names, of this task and under this rule.
+#[derive(Clone, Copy)]
+pub(crate) struct JudgedRound<'a, S: Task, R: Rule> {
+    pub(crate) task: &'a S,
+    pub(crate) rule: &'a R,
+    pub(crate) place: &'a JobSet,
 }
 
-/// The lowest job of the round above `first` that the rule doesn't let share it with `job`.
-fn first_partner<S: Task, R: Rule>(
-    task: &S,
-    rule: &R,
-    place: &JobSet,
-    first: u8,
-    job: &Job,
-) -> Option<u8>
-    ensures { FirstPartner (S.Task.meaning task.now) (R.Rule.shares rule.now) place.now first job.now result }
-{
-    for k in place.between(first as u16 + 1, task.m()) {
-        if let Some(other) = task.job(k) {
-            if !rule.may_share(job, &other) {
-                return Some(k);
-            }
-        }
+impl<'a, S: Task, R: Rule> JudgedRound<'a, S, R> {
+    /// The lowest job of the round that is absent.
+    fn first_absent(&self) -> Option<u8>
+        ensures { FirstAbsent (S.Task.meaning self.now.task.now) self.now.place.now result }
+    {
+        self.place
+            .below(self.task.m())
+            .find(|&j| self.task.job(j).is_none())
     }
-    None
-}
 
-/// The lowest job of the round that has a partner above it with which it may not share the round, and
-/// the lowest such partner.
-fn first_clash<S: Task, R: Rule>(task: &S, rule: &R, place: &JobSet) -> Option<(u8, u8)>
-    ensures { FirstClash (S.Task.meaning task.now) (R.Rule.shares rule.now) place.now result }
-{
-    for j in place.below(task.m()) {
-        if let Some(job) = task.job(j) {
-            if let Some(k) = first_partner(task, rule, place, j, &job) {
-                return Some((j, k));
-            }
-        }
+    /// The lowest job of the round above `first` that the rule doesn't let share it with `job`.
+    fn first_partner(&self, first: u8, job: &Job) -> Option<u8>
+        ensures { FirstPartner (S.Task.meaning self.now.task.now) (R.Rule.shares self.now.rule.now) self.now.place.now first job.now result }
+    {
+        self.place
+            .between(first as u16 + 1, self.task.m())
+            .find(|&k| {
+                self.task
+                    .job(k)
+                    .is_some_and(|other| !self.rule.may_share(job, &other))
+            })
     }
-    None
-}
 
-/// The lowest job of the round that is short of a need in the state, and the lowest fact that it lacks.
-fn first_missing<S: Task>(task: &S, state: FactSet, place: &JobSet) -> Option<(u8, u8)>
-    ensures { FirstLacking (S.Task.meaning task.now) (has state) place.now result }
-{
-    for j in place.below(task.m()) {
-        if let Some(job) = task.job(j) {
-            if let Some(fact) = job.needs.minus(state).lowest() {
-                return Some((j, fact));
-            }
-        }
+    /// The lowest present job of the round for which `find` answers with a number, and that number.
+    fn first_joined<F: Fn(u8, Job) -> Option<u8>>(&self, find: F) -> Option<(u8, u8)>
+        requires { F.IsAlwaysCallable find }
+        ensures { FirstJoined (S.Task.meaning self.now.task.now) self.now.place.now (F.post find) result }
+    {
+        self.place.below(self.task.m()).find_map(|j| {
+            let job = self.task.job(j)?;
+            let k = find(j, job)?;
+            Some((j, k))
+        })
     }
-    None
-}
 
-/// The fault of the round at `place`, number `round`, in the state; none if the round is allowed.
-pub(crate) fn round_fault<S: Task, R: Rule>(
-    task: &S,
-    rule: &R,
-    state: FactSet,
-    round: u16,
-    place: &JobSet,
-) -> Option<Verdict>
-    ensures { FirstFault (S.Task.meaning task.now) (R.Rule.shares rule.now) (has state) round place.now result }
-{
-    if let Some(job) = first_absent(task, place) {
-        return Some(Verdict::Closed { round, job });
+    /// The lowest job of the round that has a partner above it with which it may not share the round,
+    /// and the lowest such partner.
+    fn first_clash(&self) -> Option<(u8, u8)>
+        ensures { FirstClash (S.Task.meaning self.now.task.now) (R.Rule.shares self.now.rule.now) self.now.place.now result }
+    {
+        self.first_joined(|first, job| self.first_partner(first, &job))
     }
-    if let Some((first, second)) = first_clash(task, rule, place) {
-        return Some(Verdict::Clash {
-            round,
-            first,
-            second,
-        });
+
+    /// The lowest job of the round that is short of a need in the state, and the lowest fact that it
+    /// lacks.
+    fn first_missing(&self, state: FactSet) -> Option<(u8, u8)>
+        ensures { FirstLacking (S.Task.meaning self.now.task.now) (has state) self.now.place.now result }
+    {
+        self.first_joined(|_, job| job.needs.minus(state).lowest())
     }
-    if let Some((job, fact)) = first_missing(task, state, place) {
-        return Some(Verdict::Missing { round, job, fact });
+
+    /// The fault of the round, number `round`, in the state; none if the round is allowed.
+    pub(crate) fn fault(&self, state: FactSet, round: u16) -> Option<Verdict>
+        ensures { FirstFault (S.Task.meaning self.now.task.now) (R.Rule.shares self.now.rule.now) (has state) round self.now.place.now result }
+    {
+        if let Some(job) = self.first_absent() {
+            return Some(Verdict::Closed { round, job });
+        }
+        if let Some((first, second)) = self.first_clash() {
+            return Some(Verdict::Clash {
+                round,
+                first,
+                second,
+            });
+        }
+        let (job, fact) = self.first_missing(state)?;
+        Some(Verdict::Missing { round, job, fact })
     }
-    None
 }

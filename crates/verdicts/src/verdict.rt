@@ -5,7 +5,7 @@ ghost use Rattle.verdicts.specs.Verdicts.{text, fault_round};
 use std::fmt;
 
 /// What is said of a sheet. Rounds are numbered from 0.
-#[derive(Clone, Copy)]
+#[derive(Clone, Copy, Debug, PartialEq, Eq)]
 pub enum Verdict {
     /// A job of the round is absent.
     Closed { round: u16, job: u8 },
@@ -25,19 +25,10 @@ impl Verdict {
         ensures { result ≡ fault_round self }
     {
         match self {
-            Verdict::Closed { round, job: _ } => Some(round),
-            Verdict::Clash {
-                round,
-                first: _,
-                second: _,
-            } => Some(round),
-            Verdict::Missing {
-                round,
-                job: _,
-                fact: _,
-            } => Some(round),
-            Verdict::Goal { fact: _ } => None,
-            Verdict::Sound => None,
+            Verdict::Closed { round, .. }
+            | Verdict::Clash { round, .. }
+            | Verdict::Missing { round, .. } => Some(round),
+            Verdict::Goal { .. } | Verdict::Sound => None,
         }
     }
 }
