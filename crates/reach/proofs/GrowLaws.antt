@@ -12,18 +12,8 @@ use Rattle.reach.specs.PairSets.{paired, Fresh, Wrote}
 use Rattle.reach.specs.Tables.{Table, Room, entry, Reads, New, Growing}
 use Rattle.reach.specs.Makings.{In, Made}
 use Rattle.reach.proofs.EntryLaws.{entry_number_alike}
+use Rattle.reach.proofs.PairSetLaws.{reached_turn}
 use Rattle.reach.proofs.MadeLaws.{enters_if_made, made_if_enters}
-
--- the pairs reached have no order
-pub reached_turn : (n t : ℕ) (tb : Table) (s : PairSet) → ((p q : ℕ) → Decides (paired s p q) (Reads n t tb p q))
-    → (p q : ℕ) → paired s p q ≡ true → paired s q p ≡ true
-reached_turn n t tb s reads p q e =
-    let (lp, lq, le) = (reads p q).0 e in
-    (reads q p).1 (lq, lp, subst (λ (i : ℕ). get_or tb i 0 ≤ t) (entry_number_swap p q) le)
-
-pub made_within : (T : Meaning) (R : Says) → Admitted T → (s made : PairSet) → ((p q : ℕ) → Decides (paired made p q) (Made T R (In s) p q))
-    → (p q : ℕ) → paired made p q ≡ true → q < T.n
-made_within T R ok s made makes p q e = (enters_below T R ok (In s) p q (enters_if_made T R (In s) p q ((makes p q).0 e))).1
 
 module _ (T : Meaning) (R : Says) (ok : Admitted T) (law : Lawful R) (t : ℕ) (tb : Table) (room : Room T.n tb) (s made : PairSet)
     (reads : (p q : ℕ) → Decides (paired s p q) (Reads T.n t tb p q))

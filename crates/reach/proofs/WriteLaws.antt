@@ -1,11 +1,10 @@
 -- Writing a row of pairs, and one row after the other.
-use Rattle.std.proofs.Common.{◌≡◌, ℕ, ◌+◌, ◌<◌, Bool, true, false, not, ◌&&◌, ◌≢◌, ◌⊎◌, length, get_or, set, Some, None, sym, refl, ap, ◌∙◌, ap₂, inl, inr, arith, get_or-set_other, get_or-set_same}
+use Rattle.std.proofs.Common.{◌≡◌, ℕ, ◌+◌, Bool, true, false, not, ◌&&◌, ◌⊎◌, length, get_or, sym, ap, ◌∙◌, ap₂, inl, inr, arith}
 use Rattle.std.proofs.lemmas.Bool.{cases_eq, true≢false}
 use Rattle.sets.specs.declared.facts.FactSet.{FactSet}
 use Rattle.sets.specs.declared.walk.FactWalk.{FactWalk}
 use Rattle.sets.specs.Facts.{has}
-use Rattle.sets.specs.Walk.{Takes}
-use Rattle.sets.proofs.WalkLaws.{Begun, Met, begun_none, begun_more, met_none, met_more, met_all}
+use Rattle.sets.proofs.WalkLaws.{Begun, Met}
 use Rattle.layers.specs.Pairs.{entry_number}
 use Rattle.reach.specs.declared.pair_set.PairSet.{PairSet}
 use Rattle.reach.specs.PairSets.{row, Fresh, Wrote, WroteRow}
@@ -18,44 +17,9 @@ pub record Writing (p : ℕ) (s : FactSet) (v : ℕ) (tb tb' : Table) (w : FactW
   pub kept : (i : ℕ) → ((q : ℕ) → has s q ≡ true → i ≡ entry_number p q → ⊥) → get_or tb' i 0 ≡ get_or tb i 0
   pub stays : (i : ℕ) → get_or tb i 0 ≡ v → get_or tb' i 0 ≡ v
 
-module _ (p : ℕ) (s : FactSet) (v : ℕ) (tb : Table) (w : FactWalk) where
-  pub writing_none : w ≡ record { left = s } → Writing p s v tb tb w
-  writing_none is = record { begun = begun_none s w is; written = met_none s w is _; kept = λ i off. refl; stays = λ i h. h }
-
-  module _ (tb' : Table) (so_far : Writing p s v tb tb' w) (u : FactWalk) where
-    pub writing_more : (q e : ℕ) → Takes w (Some q) u → e ≡ entry_number p q → e < length tb' → Writing p s v tb (set tb' e v) u
-    writing_more q e step at inside =
-        record {
-          begun = begun_more s w u q step so_far.begun;
-          written =
-              met_more s w u q step (λ k. entry (set tb' e v) p k ≡ v) (λ k h off. over (entry_number p k) (so_far.written k h off))
-              (over_here (entry_number p q) (sym at));
-          kept = λ i off. let ne : i ≢ e = λ is. off q (so_far.begun q step.0.0) (is ∙ at) in rw get_or-set_other (so_far.kept i off);
-          stays = λ i h. over i (so_far.stays i h);
-        }
-      where
-        over_here : (i : ℕ) → i ≡ e → get_or (set tb' e v) i 0 ≡ v
-        over_here i is = rw is (get_or-set_same tb' e v 0 inside)
-
-        over : (i : ℕ) → get_or tb' i 0 ≡ v → get_or (set tb' e v) i 0 ≡ v
-        over i h = elim (cases_eq i e) [ inl is ↦ over_here i is | inr ne ↦ rw get_or-set_other h ]
-
-    pub writing_all : Takes w None u → WroteRow p s v tb tb'
-    writing_all step = record { written = met_all s w u _ step so_far.written; kept = so_far.kept; stays = so_far.stays }
-
 pub new_row : (made reached : PairSet) (p : ℕ) (a b s : FactSet) → a ≡ row made p → b ≡ row reached p → ((f : ℕ) → has s f ≡ (has a f && not (has b f)))
     → (f : ℕ) → has s f ≡ (has (row made p) f && not (has (row reached p) f))
 new_row made reached p a b s is-a is_b law f = law f ∙ ap₂ (λ (x y : FactSet). has x f && not (has y f)) is-a is_b
-
-pub wrote_none : (made reached : PairSet) (v : ℕ) (tb : Table) → Wrote made reached 0 v tb tb false
-wrote_none made reached v tb =
-    record {
-      same_length = refl;
-      written = λ p q f. absurd (omega (arith, f.low));
-      kept = λ i off. refl;
-      none = λ e p q f. omega (arith, f.low);
-      some = λ e. absurd (true≢false (sym e));
-    }
 
 module _ (made reached : PairSet) (p v : ℕ) (tb tb' : Table) (any : Bool) (so_far : Wrote made reached p v tb tb' any) (s : FactSet)
     (law : (f : ℕ) → has s f ≡ (has (row made p) f && not (has (row reached p) f))) where

@@ -38,5 +38,5 @@ pub record Wrote (made reached : PairSet) (n v : ℕ) (tb tb' : Table) (any : Bo
   pub same_length : length tb' ≡ length tb
   pub written : (p q : ℕ) → Fresh made reached n p q → entry tb' p q ≡ v
   pub kept : (i : ℕ) → ((p q : ℕ) → Fresh made reached n p q → i ≢ entry_number p q) → slice_index tb' i ≡ slice_index tb i
-  pub none : any ≡ false → (p q : ℕ) → Fresh made reached n p q → ⊥
+  pub none : any ≡ false → (p q : ℕ) → ¬ Fresh made reached n p q
   pub some : any ≡ true → (p : ℕ) × (q : ℕ) × Fresh made reached n p q

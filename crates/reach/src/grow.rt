@@ -2,13 +2,14 @@
 ghost use Rattle.reach.specs.Tables.{Growing};
 
 use crate::makings::pairs_made;
-use crate::pair_set::PairSet;
+use crate::reading::Reading;
 use crate::ready::ready_jobs;
-use crate::table::{ShortTable, check_room, pair_count};
+use crate::table::{ShortTable, pair_count};
 use crate::write::write_new;
 use strips::rule::Rule;
 use strips::task::Task;
 
+// Task and rule are handed over side by side: opening and reading the goal take no rule.
 /// Grows the table of the task by a layer under the rule, and says whether a pair is new.
 ///
 /// An entry up to `t` counts as reached, a larger one not, whatever the table holds. Each pair of the
@@ -24,12 +25,13 @@ pub fn grow_table<S: Task, R: Rule>(
     ensures { Growing (S.Task.meaning task.now) (R.Rule.shares rule.now) t table.old result table.new }
 {
     let n = task.n();
-    check_room(table, n)?;
+    let reading = Reading::of(task, table, t)?;
     if t as usize >= pair_count(n) {
         return Ok(false);
     }
-    let reached = PairSet::reached(table, n, t);
+    let reached = reading.reached();
     let ready = ready_jobs(task, &reached);
-    let made = pairs_made(task, rule, &reached, &ready);
+    // The first m places: the others are empty, and a task of few jobs would pay for looking at them.
+    let made = pairs_made(rule, &reached, &ready[..task.m() as usize]);
     Ok(write_new(table, n, &made, &reached, t + 1))
 }

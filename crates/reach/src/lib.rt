@@ -6,6 +6,7 @@ pub mod grow;
 mod makings;
 pub mod open;
 mod pair_set;
+mod reading;
 mod ready;
 pub mod table;
 mod write;

@@ -1,8 +1,9 @@
 //! The jobs that are ready at a layer: present, and with their needs reached.
-ghost use Rattle.reach.specs.Makings.{Readied, ReadyJobs};
+ghost use Rattle.reach.specs.Makings.{ReadyAt, ReadyJobs};
 
 use crate::pair_set::PairSet;
 use sets::facts::FactSet;
+use std::array;
 use strips::job::Job;
 use strips::task::Task;
 
@@ -14,29 +15,21 @@ pub(crate) struct Ready {
 }
 
 /// The most jobs that a task has.
-pub(crate) const MOST_JOBS: usize = 255;
+const MOST_JOBS: usize = 255;
 
-/// The job as a ready one, if its needs are reached.
-fn ready_job(reached: &PairSet, job: Job) -> Option<Ready>
-    ensures { Readied reached.now job result }
+/// The job of a number as a ready one, if it is present and its needs are reached.
+fn ready_job<S: Task>(task: &S, reached: &PairSet, j: u8) -> Option<Ready>
+    ensures { ReadyAt (S.Task.meaning task.now) reached.now j result }
 {
+    let job = task.job(j)?;
     let common = reached.common(job.needs);
-    if job.needs.is_subset(common) {
-        Some(Ready { job, common })
-    } else {
-        None
-    }
+    job.needs.is_subset(common).then_some(Ready { job, common })
 }
 
+// An array of the most jobs that a task has, and no `Vec` of the ready ones: growing allocates nothing.
 /// The ready jobs, each at its number.
 pub(crate) fn ready_jobs<S: Task>(task: &S, reached: &PairSet) -> [Option<Ready>; MOST_JOBS]
     ensures { ReadyJobs (S.Task.meaning task.now) reached.now result }
 {
-    let mut ready = [None; MOST_JOBS];
-    for j in 0..task.m() {
-        if let Some(job) = task.job(j) {
-            ready[j as usize] = ready_job(reached, job);
-        }
-    }
-    ready
+    array::from_fn(|j| ready_job(task, reached, j as u8))
 }

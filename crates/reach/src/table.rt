@@ -1,14 +1,28 @@
 //! The table of pairs, and the number of a pair's entry.
 ghost use Rattle.layers.specs.Pairs.{pair_count, entry_number};
-ghost use Rattle.reach.specs.Tables.{Room, Short};
-ghost use Rattle.std.specs.Prelude.{◌≡◌, MatchResult};
+ghost use Rattle.reach.specs.Tables.{Room, Short, text};
+ghost use Rattle.std.specs.Prelude.{◌≡◌, Some, MatchResult};
+
+use std::error::Error;
+use std::fmt;
 
 /// A refusal: fewer entries were supplied than the pairs of that many facts have.
-#[derive(Clone, Copy)]
+#[derive(Clone, Copy, Debug, PartialEq, Eq)]
 pub struct ShortTable {
     pub entries: usize,
     pub facts: u8,
 }
+
+/// Both numbers, as `9 entries for 4 facts`.
+impl fmt::Display for ShortTable {
+    ghost output = { λ e. Some (text e) };
+
+    fn fmt<W: fmt::Write>(&self, f: &mut fmt::Formatter<W>) -> fmt::Result {
+        write!(f, "{} entries for {} facts", self.entries, self.facts)
+    }
+}
+
+impl Error for ShortTable {}
 
 /// How many entries the table of `n` facts has, one for each pair: n(n+1)/2.
 pub fn pair_count(n: u8) -> usize
@@ -21,13 +35,10 @@ pub fn pair_count(n: u8) -> usize
 pub fn entry_number(p: u8, q: u8) -> usize
     ensures { result ≡ entry_number p q }
 {
-    if p <= q {
-        pair_count(q) + p as usize
-    } else {
-        pair_count(p) + q as usize
-    }
+    pair_count(p.max(q)) + p.min(q) as usize
 }
 
+// The table and its number of facts stand side by side: the entries are the caller's memory.
 /// Refuses a table with fewer entries than the pairs of `n` facts have.
 pub(crate) fn check_room(table: &[u16], n: u8) -> Result<(), ShortTable>
     ensures { MatchResult result (λ _. Room n table.now) (Short n table.now) }

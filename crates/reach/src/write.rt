@@ -19,6 +19,7 @@ pub(crate) fn write_row(table: &mut [u16], p: u8, set: FactSet, v: u16)
     }
 }
 
+// The table and `n`, and no `Reading`: the entries are the caller's memory, lent here to be written.
 /// Writes `v` to the entry of each pair that `made` has and `reached` hasn't, and says whether there is
 /// one.
 pub(crate) fn write_new(table: &mut [u16], n: u8, made: &PairSet, reached: &PairSet, v: u16) -> bool

@@ -1,39 +1,47 @@
-use Rattle.std.proofs.Common.{ℕ, ◌+◌, ◌<◌, Decides, subst, arith}
-use Rattle.layers.specs.Pairs.{pair_count}
+use Rattle.std.proofs.Common.{arith}
+use Rattle.layers.proofs.LayerLaws.{enters_below}
 use Rattle.layers.proofs.PairLaws.{pair_count_few}
-use Rattle.reach.specs.PairSets.{paired, Wrote}
-use Rattle.reach.specs.Tables.{Room, Reads}
-use Rattle.reach.proofs.GrowLaws.{reached_turn, made_within, grown}
+use Rattle.reach.specs.Makings.{In}
+use Rattle.reach.proofs.MadeLaws.{enters_if_made}
+use Rattle.reach.proofs.MakingLaws.{ready_first}
+use Rattle.reach.proofs.GrowLaws.{grown}
 use Rattle.reach.proofs.grow.grow_table.Goals as goal
 
-pub pairs_made-made-requires : goal.pairs_made-made-requires
-pairs_made-made-requires g c = record {
-  ready = c.ready_jobs-ready.ensures;
-  symmetric = reached_turn c.n-n.result c.args.t c.args.table.now c.reached-reached.result c.reached-reached.ensures;
-}
-
 pub overflow_add-t : goal.overflow_add-t
-overflow_add-t g c = omega (arith, pair_count_few c.n-n.result (let few = (g.S.Task.admitted c.args.task.now).few_facts in omega arith))
+overflow_add-t g c =
+    let is = c.in_ok-reading.ensures.facts in
+    let few = c.in_ok-reading.reading.few in
+    omega (arith, pair_count_few)
 
-pub write_new-requires : goal.write_new-requires
-write_new-requires g c = let ok = g.S.Task.admitted c.args.task.now in record {
-  few = let few = ok.few_facts in omega arith;
-  room = c.in_ok-check_room.ensures;
-  facts = λ p q e. let lt = made_within (g.S.Task.meaning c.args.task.now) (g.R.Rule.shares c.args.rule.now) ok c.reached-reached.result c.pairs_made-made.result c.pairs_made-made.ensures p q e in omega arith;
-}
+pub write_new-requires-clause-facts : goal.write_new-requires-clause-facts
+write_new-requires-clause-facts g c p q there =
+    let T = g.S.Task.meaning c.args.task.now in
+    let ok = g.S.Task.admitted c.args.task.now in
+    let s = c.reached-reached.result in
+    let is = c.in_ok-reading.ensures.facts in
+    let makes =
+    c.pairs_made-made.ensures T ok (ready_first T s c.ready_jobs-ready.result c.m.result (omega arith) c.ready_jobs-ready.ensures)
+    (λ f e. let (lt, _, _) = (c.reached-reached.ensures.read f f).0 e in omega arith) in
+    let enters = enters_if_made T (g.R.Rule.shares c.args.rule.now) (In s) p q ((makes p q).0 there) in
+    let (_, lt) = enters_below T (g.R.Rule.shares c.args.rule.now) ok (In s) p q enters in
+    omega arith
 
 pub returns : goal.returns
 returns g c =
     let T = g.S.Task.meaning c.args.task.now in
     let R = g.R.Rule.shares c.args.rule.now in
+    let ok = g.S.Task.admitted c.args.task.now in
     let tb = c.args.table.now in
     let s = c.reached-reached.result in
-    let made = c.pairs_made-made.result in
-    let is = c.n-n.ensures in
-    grown T R (g.S.Task.admitted c.args.task.now)
+    let is = c.in_ok-reading.ensures in
+    let facts = is.facts in
+    let makes =
+    c.pairs_made-made.ensures T ok (ready_first T s c.ready_jobs-ready.result c.m.result (omega arith) c.ready_jobs-ready.ensures)
+    (λ f e. let (lt, _, _) = (c.reached-reached.ensures.read f f).0 e in omega arith) in
+    grown T R ok
     record { symmetric = g.met.R.Rule.symmetric c.args.rule.now; harmless = g.met.R.Rule.harmless c.args.rule.now }
-    c.args.t tb (subst (λ (n : ℕ). Room n tb) is c.in_ok-check_room.ensures) s made
-    (λ p q. subst (λ (n : ℕ). Decides (paired s p q) (Reads n c.args.t tb p q)) is (c.reached-reached.ensures p q)) c.pairs_made-made.ensures
+    c.args.t tb (rw (is.entries, is.facts) at c.in_ok-reading.reading.room) s c.pairs_made-made.result
+    (rw (is.entries, is.facts, is.layer) at c.reached-reached.ensures.read) makes
     c.write_new.new.table c.write_new.result
-    (subst (λ (n : ℕ). c.args.t < pair_count n) is (omega arith))
-    (subst (λ (n : ℕ). Wrote made s n (c.args.t + 1) tb c.write_new.new.table c.write_new.result) is c.write_new.ensures)
+    (rw (c.pair_count.ensures, c.n-n.ensures) at c.if-t-pair_count.false)
+    (rw c.n-n.ensures at c.write_new.ensures)

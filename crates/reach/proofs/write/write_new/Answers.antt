@@ -2,12 +2,9 @@ use Rattle.std.proofs.Common.{sym, ◌∙◌, arith}
 use Rattle.std.proofs.lemmas.Bool.{and_parts, both_ways}
 use Rattle.sets.proofs.FactLaws.{some_member}
 use Rattle.layers.proofs.PairLaws.{entry_number_below}
-use Rattle.reach.proofs.WriteLaws.{new_row, wrote_none, wrote_more, wrote_skip}
+use Rattle.reach.proofs.WriteLaws.{new_row, wrote_more, wrote_skip}
 use Rattle.reach.proofs.write.write_new.Goals as goal
 use Rattle.reach.proofs.write.write_new.Goals.{then-not-is_empty, else-not-is_empty}
-
-pub loop-p-init : goal.loop-p-init
-loop-p-init c = wrote_none c.args.made.now c.args.reached.now c.args.v c.args.table.now
 
 pub write_row-requires : goal.write_row-requires
 write_row-requires c q h =
