@@ -1,10 +1,11 @@
 -- The theorem on lists of calls.
-use Rattle.std.proofs.Common.{◌≡◌, ℕ, ◌<◌, ◌≤◌, min, List, [], ◌∷◌, length, get_or, Ok, Result, sym, refl, ap, ◌∙◌, subst, inl, inr, arith}
-use Rattle.std.proofs.lemmas.Bool.{both_ways, cases_lt}
+use Rattle.std.proofs.Common.{◌≡◌, ℕ, min, List, [], ◌∷◌, length, Ok, Result, sym, refl, ap, ◌∙◌, inl, inr, arith}
+use Rattle.std.specs.Cmp.{both_ways as same_tests}
+use Rattle.std.proofs.lemmas.Bool.{both_ways}
 use Rattle.sets.specs.declared.jobs.JobSet.{JobSet}
+use Rattle.sets.proofs.SearchLaws.{lowest_one}
 use Rattle.strips.specs.Tasks.{Meaning, Admitted}
 use Rattle.strips.specs.Rules.{Says, Lawful}
-use Rattle.strips.proofs.PartLaws.{same_tests}
 use Rattle.layers.specs.Bounds.{Settles}
 use Rattle.layers.proofs.PairLaws.{entry_number_onto}
 use Rattle.layers.proofs.LayerLaws.{layer_up, goal_up}
@@ -18,22 +19,18 @@ use Rattle.planning.specs.declared.report.Report.{Report}
 use Rattle.planning.specs.Calls.{Judging}
 use Rattle.planning.specs.Runs.{World, Call, grow, add, drop, judge, Step, Run, opened, called, Story, growings, sheet_of}
 use Rattle.planning.specs.Main.{ToldAfter, EntryAfter, Worked, Alike, Stories, ListsOfCalls, HoldsOfRuns}
-use Rattle.planning.proofs.Invariant.{Inv, moved, grown, added, dropped, first_inv}
+use Rattle.planning.proofs.Invariant.{Inv, length_is, grown, added, dropped, first_inv}
 use Rattle.planning.proofs.Judgements.{judged_well}
-use Rattle.planning.proofs.SheetLaws.{rounds_length}
 
 module _ (T : Meaning) (R : Says) (ok : Admitted T) (law : Lawful R) (L : ℕ) (last : Settles T R L) (places : ℕ) where
   abbrev Kept : List Call → World → Type 0
   Kept cs w = Inv T R ok L last places (growings cs) (sheet_of T.m places cs) w.book w.table w.sheet
 
   stepped : (cs : List Call) (w : World) (c : Call) (w' : World) → Kept cs w → Step T R w c w' → Kept (c ∷ cs) w'
-  stepped cs w grow w' inv (r, s, e) =
-      moved T R ok L last places (grown T R ok L last places _ _ _ _ _ inv r w'.book w'.table s) refl refl e
-  stepped cs w (add js) w' inv (r, s, e) =
-      moved T R ok L last places (added T R ok L last places _ _ _ _ _ inv js r w'.book w'.sheet s) refl e refl
-  stepped cs w drop w' inv (r, s, e, f) =
-      moved T R ok L last places (dropped T R ok L last places _ _ _ _ _ inv r w'.book s) refl e f
-  stepped cs w judge w' inv (r, s, e) = subst (Kept cs) (sym e) inv
+  stepped cs w grow w' inv (r, s, e) = rw e (grown inv r w'.book w'.table s)
+  stepped cs w (add js) w' inv (r, s, e) = rw e (added inv js r w'.book w'.sheet s)
+  stepped cs w drop w' inv (r, s, e, f) = rw (e, f) (dropped inv r w'.book s)
+  stepped cs w judge w' inv (r, s, e) = rw e inv
 
   module _ (w₀ : World) (start : Kept [] w₀) where
     run_kept : (cs : List Call) (w : World) → Run T R w₀ cs w → Kept cs w
@@ -48,32 +45,22 @@ module _ (T : Meaning) (R : Says) (ok : Admitted T) (law : Lawful R) (L : ℕ) (
           (λ s. elim inv.settled [ inl (_, lt) ↦ lt | inr (n, _) ↦ absurd (both_ways _ n s) ]),
           (λ lt. elim inv.settled [ inl (y, _) ↦ y | inr (_, le) ↦ absurd (omega arith) ]),
         );
-        entries = λ p q lp lq. subst (λ (t : ℕ). EntryAfter T R t p q (entry w.table p q)) inv.layer (inv.cells p q lp lq);
+        entries = λ p q lp lq. rw inv.layer at (inv.cells p q lp lq);
         places = inv.all_places;
-        rounds =
-            let held : w.book.rounds ≤ length w.sheet = (let a = inv.used in let b = inv.all_places in omega arith) in
-            sym (rounds_length T.m w.book.rounds w.sheet held) ∙ ap length inv.sheet;
+        rounds = sym (length_is inv);
         sheet = inv.sheet;
-        judged = judged_well T R ok law L last places (growings cs) (sheet_of T.m places cs) w.book w.table w.sheet inv;
+        judged = judged_well law inv;
       }
 
 module _ (T : Meaning) (R : Says) where
   entry_once : (t p q e e' : ℕ) → EntryAfter T R t p q e → EntryAfter T R t p q e' → e ≡ e'
-  entry_once t p q e e' (inl ((h, l), le)) (inl ((h', l'), le')) =
-      elim (cases_lt e e') [
-        | inl lt ↦ absurd (l' e lt h)
-        | inr ge ↦ elim (cases_lt e' e) [ inl lt ↦ absurd (l e' lt h') | inr le ↦ omega arith ]
-      ]
+  entry_once t p q e e' (inl (first, _)) (inl (first', _)) = lowest_one _ e e' first first'
   entry_once t p q e e' (inl ((h, l), le)) (inr (out, _)) = absurd (out (layer_up T R e t p q le h))
   entry_once t p q e e' (inr (out, _)) (inl ((h, l), le)) = absurd (out (layer_up T R e' t p q le h))
   entry_once t p q e e' (inr (_, a)) (inr (_, b)) = a ∙ sym b
 
   told_once : (l g : ℕ) (d d' : Distance) → ToldAfter T R l g d → ToldAfter T R l g d' → d ≡ d'
-  told_once l g (Told d) (Told d') ((h, low), le) ((h', low'), le') =
-      elim (cases_lt d d') [
-        | inl lt ↦ absurd (low' d lt h)
-        | inr ge ↦ elim (cases_lt d' d) [ inl lt ↦ absurd (low d' lt h') | inr k ↦ ap Told (let e : d ≡ d' = omega arith in e) ]
-      ]
+  told_once l g (Told d) (Told d') (is, _) (is', _) = ap Told (lowest_one _ d d' is is')
   told_once l g (Told d) NoPlan ((h, low), le) (out, lt) = absurd (out (goal_up T R d l (omega arith) h))
   told_once l g (Told d) (AtLeast k) ((h, low), le) (out, gl, e) = absurd (out (goal_up T R d g (omega arith) h))
   told_once l g NoPlan (Told d) (out, lt) ((h, low), le) = absurd (out (goal_up T R d l (omega arith) h))
@@ -83,29 +70,29 @@ module _ (T : Meaning) (R : Says) where
   told_once l g (AtLeast k) NoPlan (_, gl, _) (_, lt) = absurd (omega arith)
   told_once l g (AtLeast k) (AtLeast k') (_, _, e) (_, _, e') = ap AtLeast (e ∙ sym e')
 
-  told_by : (l k : ℕ) (cs : List Call) (w : World) → Worked T R l k cs w → (rep : Report)
+  told_by : {l k : ℕ} {cs : List Call} {w : World} → Worked T R l k cs w → (rep : Report)
       → Judging T R w.book w.table w.sheet (Ok rep) → ToldAfter T R l (growings cs) rep.distance
-  told_by l k cs w h rep s =
+  told_by h rep s =
       let (rep', e, j) = h.judged (Ok rep) s in
       let same : rep' ≡ rep = cc in
-      subst (λ (x : Report). ToldAfter T R l (growings cs) x.distance) same j.distance
+      rw same at j.distance
 
-  alike : (l k k' : ℕ) (cs cs' : List Call) (w w' : World) → Worked T R l k cs w → Worked T R l k' cs' w'
+  alike : {l k k' : ℕ} {cs cs' : List Call} {w w' : World} → Worked T R l k cs w → Worked T R l k' cs' w'
       → growings cs ≡ growings cs' → Alike T R w w'
-  alike l k k' cs cs' w w' h h' e =
+  alike {l} {cs = cs} {w = w} {w' = w'} h h' e =
       record {
-        layer = h.layer ∙ (ap (λ (g : ℕ). min g l) e ∙ sym h'.layer);
+        layer = cc;
         settled = same_tests _ _
-            (λ s. h'.settled.1 (subst (λ (g : ℕ). l < g) e (h.settled.0 s)))
-            (λ s. h.settled.1 (subst (λ (g : ℕ). l < g) (sym e) (h'.settled.0 s)));
+            (λ s. h'.settled.1 (let lt = h.settled.0 s in omega arith))
+            (λ s. h.settled.1 (let lt = h'.settled.0 s in omega arith));
         table = λ i lt.
             let (p, q, lp, lq, is) = entry_number_onto T.n i lt in
             let one = entry_once (min (growings cs) l) p q (entry w.table p q) (entry w'.table p q) (h.entries p q lp lq)
-            (subst (λ (g : ℕ). EntryAfter T R (min g l) p q (entry w'.table p q)) (sym e) (h'.entries p q lp lq)) in
-            subst (λ (i : ℕ). get_or w.table i 0 ≡ get_or w'.table i 0) is one;
+            (rw (← e) at (h'.entries p q lp lq)) in
+            rw is at one;
         distance = λ rep rep' s s'.
-            told_once l (growings cs) rep.distance rep'.distance (told_by l k cs w h rep s)
-            (subst (λ (g : ℕ). ToldAfter T R l g rep'.distance) (sym e) (told_by l k' cs' w' h' rep' s'));
+            told_once l (growings cs) rep.distance rep'.distance (told_by h rep s)
+            (rw (← e) at (told_by h' rep' s'));
       }
 
 module _ (T : Meaning) (R : Says) (ok : Admitted T) (law : Lawful R) where
@@ -124,8 +111,7 @@ module _ (T : Meaning) (R : Says) (ok : Admitted T) (law : Lawful R) where
         last_layer = (layers_settle T R ok).0;
         settles = (layers_settle T R ok).1;
         worked = worked_story;
-        alike = λ σ τ e. alike T R (layers_settle T R ok).0 (length σ.first.sheet) (length τ.first.sheet) σ.calls τ.calls
-            σ.last τ.last (worked_story σ) (worked_story τ) e;
+        alike = λ σ τ e. alike T R (worked_story σ) (worked_story τ) e;
       }
 
   -- an answer of judging, where the list of calls has led to this book, table and sheet
@@ -133,8 +119,7 @@ module _ (T : Meaning) (R : Says) (ok : Admitted T) (law : Lawful R) where
   holds_of_runs b tb sh r told =
       record {
         stories = stories;
-        answer = λ σ here.
-            (stories.worked σ).judged r (subst (λ (w : World). Judging T R w.book w.table w.sheet r) (sym here) told);
+        answer = λ σ here. (stories.worked σ).judged r (rw here told);
       }
 
 pub lists_of_calls : ListsOfCalls

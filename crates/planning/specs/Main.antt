@@ -15,7 +15,7 @@
 --   ListsOfCalls            so it is for every admitted task and every lawful rule
 --   HoldsOfRuns             the same for one task, rule, book, table and sheet and one answer of judging, for
 --                           all lists of calls that lead there
-use Rattle.std.specs.Prelude.{◌≡◌, ℕ, suc, ◌<◌, ◌≤◌, min, true, ◌⊎◌, ◌↔◌, List, length, Ok, Result, slice_index}
+use Rattle.std.specs.Prelude.{◌≡◌, ℕ, suc, ◌<◌, ◌≤◌, min, true, ◌⊎◌, ◌↔◌, ⊤, List, length, Ok, Result, slice_index}
 use Rattle.sets.specs.declared.jobs.JobSet.{JobSet}
 use Rattle.strips.specs.Tasks.{Meaning, Admitted}
 use Rattle.strips.specs.Rules.{Says, Lawful}
@@ -36,21 +36,21 @@ use Rattle.planning.specs.Runs.{World, Call, Story, growings, sheet_of}
 
 abbrev pub Bounds : Meaning → Says → Distance → Type 0
 Bounds T R (Told d) = (rs : List Round) → Plan T R rs → d ≤ length rs
-Bounds T R NoPlan = (rs : List Round) → Plan T R rs → ⊥
+Bounds T R NoPlan = (rs : List Round) → ¬ Plan T R rs
 Bounds T R (AtLeast k) = (rs : List Round) → Plan T R rs → k ≤ length rs
 
 abbrev pub ToldAfter : Meaning → Says → ℕ → ℕ → Distance → Type 0
 ToldAfter T R L g (Told d) = IsDistance T R d × (d ≤ min g L)
-ToldAfter T R L g NoPlan = (GoalAt T R L → ⊥) × (L < g)
-ToldAfter T R L g (AtLeast k) = (GoalAt T R g → ⊥) × (g ≤ L) × (k ≡ suc g)
+ToldAfter T R L g NoPlan = (¬ GoalAt T R L) × (L < g)
+ToldAfter T R L g (AtLeast k) = (¬ GoalAt T R g) × (g ≤ L) × (k ≡ suc g)
 
 abbrev pub Decided : Distance → Type 0
-Decided (Told d) = Unit {0}
-Decided NoPlan = Unit {0}
+Decided (Told d) = ⊤
+Decided NoPlan = ⊤
 Decided (AtLeast k) = ⊥
 
 abbrev pub EntryAfter : Meaning → Says → ℕ → ℕ → ℕ → ℕ → Type 0
-EntryAfter T R t p q e = (First T R p q e × (e ≤ t)) ⊎ ((Layer T R t p q → ⊥) × (e ≡ 65535))
+EntryAfter T R t p q e = (First T R p q e × (e ≤ t)) ⊎ ((¬ Layer T R t p q) × (e ≡ 65535))
 
 pub record JudgedWell (T : Meaning) (R : Says) (L g : ℕ) (rs : List Round) (rep : Report) : Type 0 where
   pub bounds : Bounds T R rep.distance

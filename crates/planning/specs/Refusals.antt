@@ -2,9 +2,9 @@
 --
 --   number c        the number of the cause c
 --   told e          the refusal e as two numbers: its own and its place
---   Accepted r      the answer r is no refusal
+--   text e          how e reads: `refused with`, its number, `at`, its place, both in decimal
 --   Refused k i r   the answer r is the refusal with number k and place i
-use Rattle.std.specs.Prelude.{◌≡◌, ℕ, Ok, Err, Result}
+use Rattle.std.specs.Prelude.{◌≡◌, ℕ, List, ◌++◌, codes, decimal, Result, IsErrAnd}
 use Rattle.planning.specs.declared.refusal.Cause.{Cause}
 use Rattle.planning.specs.declared.refusal.Cause.TheVariants.{NotRising, Misfit, NoSuchJob, SheetFull, NoRounds, Settled}
 use Rattle.planning.specs.declared.refusal.Refusal.{Refusal}
@@ -20,10 +20,8 @@ number Settled = 13
 abbrev pub told : Refusal → ℕ × ℕ
 told e = (number e.cause, e.place)
 
-abbrev pub Accepted : {A : Type 0} → Result A Refusal → Type 0
-Accepted (Ok _) = Unit {0}
-Accepted (Err e) = ⊥
+abbrev pub text : Refusal → List ℕ
+text e = codes "refused with " ++ (decimal (number e.cause) ++ (codes " at " ++ decimal e.place))
 
 abbrev pub Refused : {A : Type 0} → ℕ → ℕ → Result A Refusal → Type 0
-Refused k i (Ok _) = ⊥
-Refused k i (Err e) = told e ≡ (k, i)
+Refused k i r = IsErrAnd r (λ e. told e ≡ (k, i))

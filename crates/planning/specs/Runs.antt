@@ -10,7 +10,7 @@
 --   sheet_of m k cs    the rounds that the list of calls gives, for m jobs and k sheet places: an adding
 --                      of a list that is in order appends its set of jobs if there is room, a dropping takes
 --                      off the last round if there is one, other calls keep it
-use Rattle.std.specs.Prelude.{◌≡◌, ℕ, suc, cond, ◌&&◌, List, [], ◌∷◌, ◌++◌, length, Ok, Result}
+use Rattle.std.specs.Prelude.{◌≡◌, ℕ, suc, if◌then◌else◌, ◌&&◌, List, [], ◌∷◌, ◌++◌, length, Ok, Result}
 use Rattle.sets.specs.declared.jobs.JobSet.{JobSet}
 use Rattle.sets.specs.Search.{listed}
 use Rattle.strips.specs.Tasks.{Meaning}
@@ -21,7 +21,8 @@ use Rattle.planning.specs.declared.book.Book.{Book}
 use Rattle.planning.specs.declared.refusal.Refusal.{Refusal}
 use Rattle.planning.specs.declared.report.Report.{Report}
 use Rattle.planning.specs.Calls.{Opened, Grew, Dropped, Judging}
-use Rattle.planning.specs.Adding.{clean, free, Added}
+use Rattle.planning.specs.Lists.{clean}
+use Rattle.planning.specs.Adding.{free, Added}
 
 pub record World : Type 0 where
   pub book : Book
@@ -72,6 +73,6 @@ abbrev pub sheet_of : ℕ → ℕ → List Call → List Round
 sheet_of m k [] = []
 sheet_of m k (grow ∷ cs) = sheet_of m k cs
 sheet_of m k (add js ∷ cs) =
-    let rs : List Round = sheet_of m k cs in cond (clean m js && free k (length rs)) (rs ++ (listed js ∷ [])) rs
+    let rs : List Round = sheet_of m k cs in if clean m js && free k (length rs) then rs ++ (listed js ∷ []) else rs
 sheet_of m k (drop ∷ cs) = without_last (sheet_of m k cs)
 sheet_of m k (judge ∷ cs) = sheet_of m k cs

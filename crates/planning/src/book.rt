@@ -8,6 +8,7 @@ mod grow;
 mod judge;
 mod open;
 
+// `settled` stands beside the layer and not in its place: a settled book reads its table as layer `t` too.
 /// A book: how many facts and job numbers its task has, the layer of its table, whether that is
 /// settled, and how many rounds its sheet has. It isn't copied, and comes only from opening.
 #[derive(Drop)]

@@ -1,45 +1,45 @@
 //! Refusals: two numbers, the refusal's own and its place.
-ghost use Rattle.planning.specs.Refusals.{number};
-ghost use Rattle.std.specs.Prelude.{◌≡◌};
+ghost use Rattle.planning.specs.Refusals.{number, text};
+ghost use Rattle.planning.specs.declared.refusal.Cause.TheVariants.{Misfit};
+ghost use Rattle.std.specs.Prelude.{◌≡◌, Some};
 
-/// Why a call is refused.
-#[derive(Clone, Copy)]
+use reach::table::ShortTable;
+use std::error::Error;
+use std::fmt;
+use verdicts::sheet::ShortSheet;
+
+/// Why a call is refused, by its number.
+#[derive(Clone, Copy, Debug, PartialEq, Eq)]
 pub enum Cause {
-    /// A list of numbers doesn't rise strictly: number 6.
-    NotRising,
-    /// The memory or the task isn't the book's: number 9. There are fewer entries than n(n+1)/2, fewer
-    /// sheet places than rounds, or the task's `n` or `m` isn't the book's.
-    Misfit,
-    /// A job number is `m` or above: number 10.
-    NoSuchJob,
-    /// Every sheet place supplied, or 500, is in use: number 11.
-    SheetFull,
-    /// There is no round to drop: number 12.
-    NoRounds,
-    /// A settled book grows no more: number 13.
-    Settled,
+    /// A list of numbers doesn't rise strictly.
+    NotRising = 6,
+    /// The memory or the task isn't the book's: there are fewer entries than n(n+1)/2, fewer sheet places
+    /// than rounds, or the task's `n` or `m` isn't the book's.
+    Misfit = 9,
+    /// A job number is `m` or above.
+    NoSuchJob = 10,
+    /// Every sheet place supplied, or 500, is in use.
+    SheetFull = 11,
+    /// There is no round to drop.
+    NoRounds = 12,
+    /// A settled book grows no more.
+    Settled = 13,
 }
 
 /// A refusal: its cause, which has a number, and its place.
-#[derive(Clone, Copy)]
+#[derive(Clone, Copy, Debug, PartialEq, Eq)]
 pub struct Refusal {
     pub cause: Cause,
     pub place: usize,
 }
 
 impl Cause {
+    // Beside `From` for `u8`: a clause of `Display` and the docs say `number`.
     /// The refusal's number.
     pub fn number(self) -> u8
         ensures { result ≡ number self }
     {
-        match self {
-            Cause::NotRising => 6,
-            Cause::Misfit => 9,
-            Cause::NoSuchJob => 10,
-            Cause::SheetFull => 11,
-            Cause::NoRounds => 12,
-            Cause::Settled => 13,
-        }
+        self as u8
     }
 
     /// The refusal with this cause at this place.
@@ -48,14 +48,52 @@ impl Cause {
     {
         Refusal { cause: self, place }
     }
+}
 
-    /// The refusal with this cause and place 0.
-    pub(crate) fn at_once(self) -> Refusal
-        ensures { result ≡ record { cause = self; place = 0 } }
-    {
-        Refusal {
-            cause: self,
-            place: 0,
-        }
+/// The cause's number.
+impl From<Cause> for u8 {
+    ghost from_gives = { λ cause told. told ≡ number cause };
+
+    fn from(cause: Cause) -> u8 {
+        cause.number()
     }
 }
+
+/// The refusal with this cause at place 0.
+impl From<Cause> for Refusal {
+    ghost from_gives = { λ cause refusal. refusal ≡ record { cause = cause; place = 0 } };
+
+    fn from(cause: Cause) -> Refusal {
+        cause.at(0)
+    }
+}
+
+// Once for each error: a `From` over both would need a trait for the two.
+/// A table that is too short isn't the book's.
+impl From<ShortTable> for Refusal {
+    ghost from_gives = { λ _ refusal. refusal ≡ record { cause = Misfit; place = 0 } };
+
+    fn from(_table: ShortTable) -> Refusal {
+        Cause::Misfit.into()
+    }
+}
+
+/// A sheet that is too short isn't the book's.
+impl From<ShortSheet> for Refusal {
+    ghost from_gives = { λ _ refusal. refusal ≡ record { cause = Misfit; place = 0 } };
+
+    fn from(_sheet: ShortSheet) -> Refusal {
+        Cause::Misfit.into()
+    }
+}
+
+/// The refusal's two numbers, as `refused with 9 at 0`.
+impl fmt::Display for Refusal {
+    ghost output = { λ refusal. Some (text refusal) };
+
+    fn fmt<W: fmt::Write>(&self, f: &mut fmt::Formatter<W>) -> fmt::Result {
+        write!(f, "refused with {} at {}", self.cause.number(), self.place)
+    }
+}
+
+impl Error for Refusal {}

@@ -1,12 +1,13 @@
 //! What judging answers.
-ghost use Rattle.planning.specs.Reports.{excess_of, Shortest};
-ghost use Rattle.std.specs.Prelude.{◌≡◌, Decides};
+ghost use Rattle.planning.specs.Reports.{excess_of, Shortest, text};
+ghost use Rattle.std.specs.Prelude.{◌≡◌, ◌↔◌, IsTrue, Some};
 
+use std::fmt;
 use verdicts::verdict::Verdict;
 
 /// What a table tells of the distance. What that says of plans is said for a table that was opened and
 /// grown for the task, under the rule, that is judged.
-#[derive(Clone, Copy)]
+#[derive(Clone, Copy, Debug, PartialEq, Eq)]
 pub enum Distance {
     /// The distance: no plan has fewer rounds.
     Told(u16),
@@ -17,7 +18,7 @@ pub enum Distance {
 }
 
 /// The answer of judging.
-#[derive(Clone, Copy)]
+#[derive(Clone, Copy, Debug, PartialEq, Eq)]
 pub struct Report {
     pub rounds: u16,
     pub verdict: Verdict,
@@ -33,8 +34,20 @@ impl Distance {
     {
         match self {
             Distance::Told(distance) => Some(rounds as i32 - distance as i32),
-            Distance::NoPlan => None,
-            Distance::AtLeast(_) => None,
+            Distance::NoPlan | Distance::AtLeast(_) => None,
+        }
+    }
+}
+
+/// What is told of the distance, as `4`, `none` or `at least 4`.
+impl fmt::Display for Distance {
+    ghost output = { λ distance. Some (text distance) };
+
+    fn fmt<W: fmt::Write>(&self, f: &mut fmt::Formatter<W>) -> fmt::Result {
+        match *self {
+            Distance::Told(distance) => write!(f, "{distance}"),
+            Distance::NoPlan => write!(f, "none"),
+            Distance::AtLeast(rounds) => write!(f, "at least {rounds}"),
         }
     }
 }
@@ -42,11 +55,8 @@ impl Distance {
 impl Report {
     /// Whether the sheet is called shortest: it is sound, and its excess is 0.
     pub fn is_shortest(&self) -> bool
-        ensures { Decides result (Shortest self.now) }
+        ensures { IsTrue result ↔ Shortest self.now }
     {
-        match (self.verdict, self.excess) {
-            (Verdict::Sound, Some(excess)) => excess == 0,
-            _ => false,
-        }
+        self.verdict == Verdict::Sound && self.excess == Some(0)
     }
 }

@@ -1,28 +1,17 @@
 //! Judging a sheet.
-ghost use Rattle.planning.specs.Calls.{Judging, Tells};
+ghost use Rattle.planning.specs.Calls.{Judging};
 ghost use Rattle.planning.specs.Main.{HoldsOfRuns};
 
 use crate::book::Book;
-use crate::refusal::{Cause, Refusal};
-use crate::report::{Distance, Report};
-use reach::goal::goal_layer;
+use crate::refusal::Refusal;
+use crate::report::Report;
 use sets::jobs::JobSet;
 use strips::rule::Rule;
 use strips::task::Task;
 use verdicts::sheet::sheet_verdict;
 
 impl Book {
-    /// What the book tells of the distance, where `layer` is the layer that its table gives for the goal.
-    pub(crate) fn told(&self, layer: Option<u16>) -> Distance
-        ensures { Tells self.now layer result }
-    {
-        match layer {
-            Some(distance) => Distance::Told(distance),
-            None if self.settled => Distance::NoPlan,
-            None => Distance::AtLeast(self.t as u32 + 1),
-        }
-    }
-
+    // Apart from `judge`, whose theorem is proved from this clause alone.
     /// The answer of judging.
     fn report<S: Task, R: Rule>(
         &self,
@@ -33,16 +22,8 @@ impl Book {
     ) -> Result<Report, Refusal>
         ensures { Judging (S.Task.meaning task.now) (R.Rule.shares rule.now) self.now table.now sheet.now result }
     {
-        if !self.fits(task, table) {
-            return Err(Cause::Misfit.at_once());
-        }
-        let Ok(verdict) = sheet_verdict(task, rule, sheet, self.rounds) else {
-            return Err(Cause::Misfit.at_once());
-        };
-        let Ok(layer) = goal_layer(task, table, self.t) else {
-            return Err(Cause::Misfit.at_once());
-        };
-        let distance = self.told(layer);
+        let distance = self.distance(task, table)?;
+        let verdict = sheet_verdict(task, rule, sheet, self.rounds)?;
         Ok(Report {
             rounds: self.rounds,
             verdict,
