@@ -1,5 +1,5 @@
 //! The lift count: a lift fetches a pallet that stands on another floor.
-use crate::work::{accepted, add_all, grown, refused};
+use crate::work::{add_all, grown, refused};
 use planning::report::{Distance, Report};
 use sets::facts::FactSet;
 use sets::jobs::JobSet;
@@ -12,13 +12,6 @@ use strips::row::Row;
 use strips::rules::Apart;
 use strips::task::Task;
 use strips::withheld::Withheld;
-
-fn header() -> Result<Header, Fail> {
-    match Header::new(5, 4, FactSet::of(&[0, 2]), FactSet::of(&[0, 4])) {
-        Ok(header) => Ok(header),
-        Err(_) => Err(Fail::new("no header")),
-    }
-}
 
 fn row(needs: &[u8], adds: u8, deletes: u8) -> Row {
     Row {
@@ -38,12 +31,18 @@ fn rows() -> [Row; 4] {
     ]
 }
 
+/// The lift count, answered from these rows.
+fn lift(rows: &[Row]) -> Result<Loaded<'_>, Fail> {
+    let header = Header::new(5, 4, FactSet::of(&[0, 2]), FactSet::of(&[0, 4]))?;
+    Ok(Loaded { header, rows })
+}
+
 /// What is told of the distance after so many growings under apart.
 fn distance_after<S: Task>(task: &S, growings: u8) -> Result<Distance, Fail> {
     let mut table = [0; 15];
     let book = grown(task, &Apart, &mut table, growings)?;
     let sheet = [JobSet::empty(); 1];
-    Ok(accepted(book.judge(task, &Apart, &table, &sheet))?.distance)
+    Ok(book.judge(task, &Apart, &table, &sheet)?.distance)
 }
 
 /// The answer of judging these rounds once the table is settled, which takes so many growings.
@@ -52,7 +51,7 @@ fn judged<S: Task>(task: &S, growings: u8, rounds: &[&[u8]]) -> Result<Report, F
     let mut sheet = [JobSet::empty(); 4];
     let mut book = grown(task, &Apart, &mut table, growings)?;
     add_all(&mut book, &mut sheet, rounds)?;
-    accepted(book.judge(task, &Apart, &table, &sheet))
+    Ok(book.judge(task, &Apart, &table, &sheet)?)
 }
 
 /// Passes if the report has this verdict, excess and word on shortest.
@@ -72,12 +71,9 @@ fn reads(
 #[test]
 fn the_fifth_growing_settles(rt: HostRuntime) -> Result<(), Fail> {
     let rows = rows();
-    let lift = Loaded {
-        header: header()?,
-        rows: &rows,
-    };
-    assert!(rt; matches!(distance_after(&lift, 3)?, Distance::AtLeast(4)));
-    assert!(rt; matches!(distance_after(&lift, 4)?, Distance::Told(4)));
+    let lift = lift(&rows)?;
+    assert_eq!(rt; distance_after(&lift, 3)?, Distance::AtLeast(4));
+    assert_eq!(rt; distance_after(&lift, 4)?, Distance::Told(4));
     let mut table = [7; 16];
     let mut book = grown(&lift, &Apart, &mut table, 5)?;
     refused(&rt, book.grow(&lift, &Apart, &mut table), 13, 0)?;
@@ -88,10 +84,7 @@ fn the_fifth_growing_settles(rt: HostRuntime) -> Result<(), Fail> {
 #[test]
 fn sheets_of_the_lift(rt: HostRuntime) -> Result<(), Fail> {
     let rows = rows();
-    let lift = Loaded {
-        header: header()?,
-        rows: &rows,
-    };
+    let lift = lift(&rows)?;
     let four = judged(&lift, 5, &[&[0], &[1], &[2], &[3]])?;
     reads(&rt, &four, "sound", Some(0), true)?;
     let pair = judged(&lift, 5, &[&[0, 1]])?;
@@ -105,21 +98,18 @@ fn sheets_of_the_lift(rt: HostRuntime) -> Result<(), Fail> {
 #[test]
 fn layers_over_the_lift(rt: HostRuntime) -> Result<(), Fail> {
     let rows = rows();
-    let lift = Loaded {
-        header: header()?,
-        rows: &rows,
-    };
+    let lift = lift(&rows)?;
     let withheld = Withheld {
         below: &lift,
         marks: JobSet::of(&[3]),
     };
     let report = judged(&withheld, 4, &[&[0], &[1], &[2], &[3]])?;
-    assert!(rt; matches!(report.distance, Distance::NoPlan));
+    assert_eq!(rt; report.distance, Distance::NoPlan);
     reads(&rt, &report, "closed 3 3", None, false)?;
     let moved = MovedStart {
         below: &lift,
         start: FactSet::of(&[1, 4]),
     };
-    assert!(rt; matches!(distance_after(&moved, 2)?, Distance::Told(1)));
+    assert_eq!(rt; distance_after(&moved, 2)?, Distance::Told(1));
     Ok(())
 }

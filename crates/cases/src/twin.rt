@@ -13,13 +13,6 @@ use strips::task::Task;
 use strips::withheld::Withheld;
 use verdicts::sheet::sheet_verdict;
 
-pub fn header() -> Result<Header, Fail> {
-    match Header::new(4, 2, FactSet::of(&[0, 2]), FactSet::of(&[1, 3])) {
-        Ok(header) => Ok(header),
-        Err(_) => Err(Fail::new("no header")),
-    }
-}
-
 /// Job 0 needs and deletes 0 and adds 1; job 1 needs and deletes 2 and adds 3.
 pub fn rows(zone: u8) -> [Row; 2] {
     let first = FactSet::single(0);
@@ -40,6 +33,12 @@ pub fn rows(zone: u8) -> [Row; 2] {
     ]
 }
 
+/// The twin count, answered from these rows.
+pub fn twin(rows: &[Row]) -> Result<Loaded<'_>, Fail> {
+    let header = Header::new(4, 2, FactSet::of(&[0, 2]), FactSet::of(&[1, 3]))?;
+    Ok(Loaded { header, rows })
+}
+
 /// Passes if the verdict on the first `rounds` places reads so.
 fn reads<S: Task, R: Rule>(
     rt: &(impl Abort + AllocGlobal),
@@ -49,22 +48,15 @@ fn reads<S: Task, R: Rule>(
     rounds: u16,
     text: &str,
 ) -> Result<(), Fail> {
-    match sheet_verdict(task, rule, sheet, rounds) {
-        Ok(verdict) => {
-            assert_eq!(rt; verdict.to_string(rt.alloc())?.as_str(), text);
-            Ok(())
-        },
-        Err(_) => Err(Fail::new("too few places")),
-    }
+    let verdict = sheet_verdict(task, rule, sheet, rounds)?;
+    assert_eq!(rt; verdict.to_string(rt.alloc())?.as_str(), text);
+    Ok(())
 }
 
 #[test]
 fn layers_pile_in_either_order(rt: HostRuntime) -> Result<(), Fail> {
     let rows = rows(0);
-    let twin = Loaded {
-        header: header()?,
-        rows: &rows,
-    };
+    let twin = twin(&rows)?;
     let start = FactSet::of(&[1, 2, 100]);
     let marks = JobSet::of(&[1, 255]);
     let sheet = [JobSet::of(&[1])];
@@ -72,38 +64,23 @@ fn layers_pile_in_either_order(rt: HostRuntime) -> Result<(), Fail> {
         below: &twin,
         start,
     };
+    let withheld = Withheld {
+        below: moved,
+        marks,
+    };
+    let other_way = MovedStart {
+        below: Withheld { below: twin, marks },
+        start,
+    };
     reads(&rt, &moved, &Apart, &sheet, 1, "sound")?;
-    reads(
-        &rt,
-        &Withheld {
-            below: moved,
-            marks,
-        },
-        &Apart,
-        &sheet,
-        1,
-        "closed 0 1",
-    )?;
-    reads(
-        &rt,
-        &MovedStart {
-            below: Withheld { below: twin, marks },
-            start,
-        },
-        &Apart,
-        &sheet,
-        1,
-        "closed 0 1",
-    )
+    reads(&rt, &withheld, &Apart, &sheet, 1, "closed 0 1")?;
+    reads(&rt, &other_way, &Apart, &sheet, 1, "closed 0 1")
 }
 
 #[test]
 fn pauses_are_allowed_and_numbers_past_the_jobs_do_not_count(rt: HostRuntime) -> Result<(), Fail> {
     let rows = rows(0);
-    let twin = Loaded {
-        header: header()?,
-        rows: &rows,
-    };
+    let twin = twin(&rows)?;
     let sheet = [
         JobSet::empty(),
         JobSet::of(&[0, 2, 255]),
@@ -119,52 +96,11 @@ fn pauses_are_allowed_and_numbers_past_the_jobs_do_not_count(rt: HostRuntime) ->
 
 #[test]
 fn rules_differ(rt: HostRuntime) -> Result<(), Fail> {
-    let header = header()?;
-    let no_zone = rows(0);
-    let one_zone = rows(7);
+    let (no_zone, one_zone) = (rows(0), rows(7));
+    let (no_zone, one_zone) = (twin(&no_zone)?, twin(&one_zone)?);
     let sheet = [JobSet::of(&[0, 1])];
-    reads(
-        &rt,
-        &Loaded {
-            header,
-            rows: &no_zone,
-        },
-        &SingleFile,
-        &sheet,
-        1,
-        "clash 0 0 1",
-    )?;
-    reads(
-        &rt,
-        &Loaded {
-            header,
-            rows: &no_zone,
-        },
-        &Zoned,
-        &sheet,
-        1,
-        "sound",
-    )?;
-    reads(
-        &rt,
-        &Loaded {
-            header,
-            rows: &one_zone,
-        },
-        &Zoned,
-        &sheet,
-        1,
-        "clash 0 0 1",
-    )?;
-    reads(
-        &rt,
-        &Loaded {
-            header,
-            rows: &one_zone,
-        },
-        &Apart,
-        &sheet,
-        1,
-        "sound",
-    )
+    reads(&rt, &no_zone, &SingleFile, &sheet, 1, "clash 0 0 1")?;
+    reads(&rt, &no_zone, &Zoned, &sheet, 1, "sound")?;
+    reads(&rt, &one_zone, &Zoned, &sheet, 1, "clash 0 0 1")?;
+    reads(&rt, &one_zone, &Apart, &sheet, 1, "sound")
 }

@@ -1,5 +1,4 @@
-//! A supervisor's desk: a book, and the table and the sheet that it is lent at each call.
-use anyhow::anyhow;
+//! A supervisor's desk: a task, its book, and the table and the sheet that the book is lent at each call.
 use planning::book::Book;
 use planning::refusal::Refusal;
 use planning::report::Report;
@@ -12,25 +11,21 @@ const PAIRS: usize = 15;
 
 const PLACES: usize = 8;
 
+// Arrays and no `Vec`: the program takes no memory from the system, and rests on three functions of the C library fewer.
 #[derive(Drop)]
-pub struct Desk {
+pub struct Desk<'a, S: Task> {
+    pub task: &'a S,
     book: Book,
     table: [u16; PAIRS],
     sheet: [JobSet; PLACES],
 }
 
-fn accepted<T: Drop>(answer: Result<T, Refusal>) -> anyhow::Result<T> {
-    match answer {
-        Ok(value) => Ok(value),
-        Err(_) => Err(anyhow!("the book refuses the call")),
-    }
-}
-
-impl Desk {
-    pub fn open<S: Task>(task: &S) -> anyhow::Result<Desk> {
+impl<'a, S: Task> Desk<'a, S> {
+    pub fn open(task: &'a S) -> Result<Desk<'a, S>, Refusal> {
         let mut table = [0; PAIRS];
-        let book = accepted(Book::open(task, &mut table))?;
+        let book = Book::open(task, &mut table)?;
         Ok(Desk {
+            task,
             book,
             table,
             sheet: [JobSet::empty(); PLACES],
@@ -38,32 +33,29 @@ impl Desk {
     }
 
     /// One growing, under apart.
-    pub fn grow<S: Task>(&mut self, task: &S) -> anyhow::Result<()> {
-        accepted(self.book.grow(task, &Apart, &mut self.table))
+    pub fn grow(&mut self) -> Result<(), Refusal> {
+        self.book.grow(self.task, &Apart, &mut self.table)
     }
 
-    pub fn add(&mut self, jobs: &[u8]) -> anyhow::Result<()> {
-        accepted(self.book.add(&mut self.sheet, jobs))
+    pub fn add(&mut self, jobs: &[u8]) -> Result<(), Refusal> {
+        self.book.add(&mut self.sheet, jobs)
     }
 
-    pub fn drop_round(&mut self) -> anyhow::Result<()> {
-        accepted(self.book.drop_round())
+    pub fn drop_round(&mut self) -> Result<(), Refusal> {
+        self.book.drop_round()
     }
 
     /// The answer of judging under apart.
-    pub fn judge<S: Task>(&self, task: &S) -> anyhow::Result<Report> {
-        accepted(self.book.judge(task, &Apart, &self.table, &self.sheet))
+    pub fn judge(&self) -> Result<Report, Refusal> {
+        self.book.judge(self.task, &Apart, &self.table, &self.sheet)
     }
 
     /// How many pairs of facts are reached so far.
     pub fn reached(&self) -> usize {
-        let mut reached = 0;
-        for entry in &self.table {
-            if *entry != u16::MAX {
-                reached += 1;
-            }
-        }
-        reached
+        self.table
+            .iter()
+            .filter(|entry| **entry != u16::MAX)
+            .count()
     }
 
     pub fn places(&self) -> &[JobSet] {

@@ -1,4 +1,5 @@
 //! The lift count, written in code: a lift fetches a pallet that stands on another floor.
+// The tests of `cases` have the same rows: a crate for the two would make an example's data public.
 use sets::facts::FactSet;
 use strips::header::{Header, HeaderFault};
 use strips::row::Row;

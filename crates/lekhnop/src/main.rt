@@ -11,15 +11,12 @@ mod walks;
 use crate::desk::Desk;
 use crate::print::show_task;
 use crate::walks::{edit_while_growing, grow_until_told, judge_sheet};
-use anyhow::anyhow;
 use sets::jobs::JobSet;
 use strips::loaded::Loaded;
 use strips::withheld::Withheld;
 
 fn run(rt: &HostRuntime) -> anyhow::Result<()> {
-    let Ok(header) = lift::header() else {
-        return Err(anyhow!("the lift's header is at fault"));
-    };
+    let header = lift::header()?;
     let rows = lift::rows();
     let lift = Loaded {
         header,
@@ -28,11 +25,11 @@ fn run(rt: &HostRuntime) -> anyhow::Result<()> {
     println!(rt; "The lift count:")?;
     show_task(rt, &lift)?;
     let mut desk = Desk::open(&lift)?;
-    grow_until_told(rt, &lift, &mut desk)?;
-    judge_sheet(rt, &lift, &mut desk, &[&[0], &[1], &[2], &[3]])?;
-    judge_sheet(rt, &lift, &mut desk, &[&[0, 1]])?;
-    judge_sheet(rt, &lift, &mut desk, &[&[0], &[2]])?;
-    judge_sheet(rt, &lift, &mut desk, &[&[0], &[1], &[2]])?;
+    grow_until_told(rt, &mut desk)?;
+    judge_sheet(rt, &mut desk, &[&[0], &[1], &[2], &[3]])?;
+    judge_sheet(rt, &mut desk, &[&[0, 1]])?;
+    judge_sheet(rt, &mut desk, &[&[0], &[2]])?;
+    judge_sheet(rt, &mut desk, &[&[0], &[1], &[2]])?;
     println!(rt; "The lift count, its sheet edited after every growing:")?;
     edit_while_growing(rt, &lift, &[&[0], &[1], &[2], &[3]])?;
     let withheld = Withheld {
@@ -42,8 +39,8 @@ fn run(rt: &HostRuntime) -> anyhow::Result<()> {
     println!(rt; "The lift count with job 3 withheld:")?;
     show_task(rt, &withheld)?;
     let mut desk = Desk::open(&withheld)?;
-    grow_until_told(rt, &withheld, &mut desk)?;
-    judge_sheet(rt, &withheld, &mut desk, &[&[0], &[1], &[2], &[3]])
+    grow_until_told(rt, &mut desk)?;
+    judge_sheet(rt, &mut desk, &[&[0], &[1], &[2], &[3]])
 }
 
 fn main(rt: HostRuntime) -> anyhow::Result<()> {

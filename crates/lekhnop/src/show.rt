@@ -1,32 +1,38 @@
-//! How sets and distances are shown to a person.
-use planning::report::Distance;
+//! How sets are shown to a person.
+ghost use Rattle.std.specs.Iterator.{IsFinite};
+
 use sets::facts::FactSet;
 use sets::jobs::JobSet;
 use std::fmt;
 
-/// Writes a number, behind a comma unless it is the first.
-fn write_next<W: fmt::Write>(f: &mut fmt::Formatter<W>, first: bool, number: u8) -> fmt::Result {
-    if first {
-        write!(f, "{number}")
-    } else {
-        write!(f, ",{number}")
+/// Writes the numbers with a comma between each two.
+fn write_numbers<W: fmt::Write, I: Iterator<Item = u8> + Drop>(
+    f: &mut fmt::Formatter<W>,
+    numbers: I,
+) -> fmt::Result
+    requires can { I.can_next numbers }
+    requires ends { IsFinite (I.remaining numbers) }
+{
+    let mut first = true;
+    for number in numbers {
+        if !first {
+            write!(f, ",")?;
+        }
+        write!(f, "{number}")?;
+        first = false;
     }
+    Ok(())
 }
 
+// `Facts` and `Round` are types of the program's own: neither set has one text, and the brackets are chosen here.
 /// A set of facts, as `{0,2}`.
 #[derive(Clone, Copy)]
 pub struct Facts(pub FactSet);
 
 impl fmt::Display for Facts {
     fn fmt<W: fmt::Write>(&self, f: &mut fmt::Formatter<W>) -> fmt::Result {
-        let mut first = true;
         write!(f, "{{")?;
-        for fact in 0..128u8 {
-            if self.0.contains(fact) {
-                write_next(f, first, fact)?;
-                first = false;
-            }
-        }
+        write_numbers(f, self.0.walk())?;
         write!(f, "}}")
     }
 }
@@ -37,26 +43,8 @@ pub struct Round(pub JobSet);
 
 impl fmt::Display for Round {
     fn fmt<W: fmt::Write>(&self, f: &mut fmt::Formatter<W>) -> fmt::Result {
-        let mut first = true;
         write!(f, "[")?;
-        for job in self.0.below(255) {
-            write_next(f, first, job)?;
-            first = false;
-        }
+        write_numbers(f, self.0.below(255))?;
         write!(f, "]")
-    }
-}
-
-/// What is told of the distance, as `4`, `none` or `at least 4`.
-#[derive(Clone, Copy)]
-pub struct Shown(pub Distance);
-
-impl fmt::Display for Shown {
-    fn fmt<W: fmt::Write>(&self, f: &mut fmt::Formatter<W>) -> fmt::Result {
-        match self.0 {
-            Distance::Told(distance) => write!(f, "{distance}"),
-            Distance::NoPlan => write!(f, "none"),
-            Distance::AtLeast(rounds) => write!(f, "at least {rounds}"),
-        }
     }
 }

@@ -1,7 +1,7 @@
 //! Two walks through a count, as they are printed.
 use crate::desk::Desk;
 use crate::print::show_rounds;
-use crate::show::{Round, Shown};
+use crate::show::Round;
 use planning::report::{Distance, Report};
 use sets::jobs::JobSet;
 use strips::task::Task;
@@ -9,21 +9,13 @@ use strips::task::Task;
 /// The most growings that a book of five facts takes until it is settled.
 const MOST_GROWINGS: u8 = 16;
 
-fn is_told(distance: Distance) -> bool {
-    match distance {
-        Distance::AtLeast(_) => false,
-        _ => true,
-    }
-}
-
 /// Grows the table until a distance or none is told, and prints what is told after each growing.
-pub fn grow_until_told<S: Task>(rt: &HostRuntime, task: &S, desk: &mut Desk) -> anyhow::Result<()> {
+pub fn grow_until_told<S: Task>(rt: &HostRuntime, desk: &mut Desk<'_, S>) -> anyhow::Result<()> {
     for growing in 1..=MOST_GROWINGS {
-        desk.grow(task)?;
-        let distance = desk.judge(task)?.distance;
-        let shown = Shown(distance);
-        println!(rt; "growing {growing}: distance {shown}")?;
-        if is_told(distance) {
+        desk.grow()?;
+        let distance = desk.judge()?.distance;
+        println!(rt; "growing {growing}: distance {distance}")?;
+        if !matches!(distance, Distance::AtLeast(_)) {
             break;
         }
     }
@@ -34,7 +26,7 @@ pub fn grow_until_told<S: Task>(rt: &HostRuntime, task: &S, desk: &mut Desk) -> 
 fn show_report(rt: &HostRuntime, report: &Report) -> anyhow::Result<()> {
     let rounds = report.rounds;
     let verdict = report.verdict;
-    let distance = Shown(report.distance);
+    let distance = report.distance;
     println!(rt; "rounds {rounds}, verdict {verdict}, distance {distance}")?;
     if let Some(excess) = report.excess {
         println!(rt; "excess {excess}")?;
@@ -50,8 +42,7 @@ fn show_report(rt: &HostRuntime, report: &Report) -> anyhow::Result<()> {
 /// answer; then takes the rounds off again.
 pub fn judge_sheet<S: Task>(
     rt: &HostRuntime,
-    task: &S,
-    desk: &mut Desk,
+    desk: &mut Desk<'_, S>,
     rounds: &[&[u8]],
 ) -> anyhow::Result<()> {
     print!(rt; "sheet ")?;
@@ -61,9 +52,9 @@ pub fn judge_sheet<S: Task>(
         print!(rt; "{round}")?;
     }
     println!(rt; "")?;
-    let report = desk.judge(task)?;
+    let report = desk.judge()?;
     let allowed = report.verdict.round().unwrap_or(report.rounds);
-    show_rounds(rt, task, desk.places(), allowed as usize)?;
+    show_rounds(rt, desk.task, desk.places(), allowed as usize)?;
     show_report(rt, &report)?;
     for _ in rounds {
         desk.drop_round()?;
@@ -80,13 +71,13 @@ pub fn edit_while_growing<S: Task>(
 ) -> anyhow::Result<()> {
     let mut desk = Desk::open(task)?;
     for jobs in rounds {
-        desk.grow(task)?;
-        let before = Shown(desk.judge(task)?.distance);
+        desk.grow()?;
+        let before = desk.judge()?.distance;
         let reached = desk.reached();
         desk.add(jobs)?;
         let round = Round(JobSet::of(jobs));
-        let report = desk.judge(task)?;
-        let after = Shown(report.distance);
+        let report = desk.judge()?;
+        let after = report.distance;
         let kept = desk.reached();
         let verdict = report.verdict;
         println!(rt; "grown: distance {before}, {reached} pairs reached")?;

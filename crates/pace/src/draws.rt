@@ -26,8 +26,10 @@ impl Draws {
 
     /// A number from `low` to `high`.
     pub(crate) fn between(&mut self, low: u8, high: u8) -> u8
-        requires { (low ≤ high) × (high < 128) }
-        ensures { (low ≤ result) × (result ≤ high) }
+        requires order { low ≤ high }
+        requires below { high < 128 }
+        ensures least { low ≤ result }
+        ensures most { result ≤ high }
     {
         let choices = (high - low) as u64 + 1;
         low + ((self.next() >> 11) % choices) as u8
@@ -35,7 +37,8 @@ impl Draws {
 
     /// The set of the facts of `low` to `high` draws out of 128 facts, which may fall on one fact twice.
     pub(crate) fn facts(&mut self, low: u8, high: u8) -> FactSet
-        requires { (low ≤ high) × (high < 128) }
+        requires order { low ≤ high }
+        requires below { high < 128 }
     {
         let mut set = FactSet::empty();
         for _ in 0..self.between(low, high) {

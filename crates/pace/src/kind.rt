@@ -1,4 +1,7 @@
 //! The kinds of tasks that are grown.
+use std::error::Error;
+use std::fmt;
+use std::str::FromStr;
 
 /// A kind of task.
 #[derive(Clone, Copy)]
@@ -11,23 +14,37 @@ pub enum Kind {
     Chain,
 }
 
-impl Kind {
-    /// The word for this kind.
-    pub fn name(self) -> &'static str {
-        match self {
+/// A word that names no kind.
+#[derive(Clone, Copy, Debug)]
+pub struct UnknownKind;
+
+impl fmt::Display for Kind {
+    fn fmt<W: fmt::Write>(&self, f: &mut fmt::Formatter<W>) -> fmt::Result {
+        f.write_str(match self {
             Kind::Random => "random",
             Kind::Dense => "dense",
             Kind::Chain => "chain",
-        }
+        })
     }
+}
 
-    /// The kind that this is the word for.
-    pub fn named(word: &str) -> Option<Kind> {
+impl FromStr for Kind {
+    type Err = UnknownKind;
+
+    fn from_str(word: &str) -> Result<Kind, UnknownKind> {
         match word {
-            "random" => Some(Kind::Random),
-            "dense" => Some(Kind::Dense),
-            "chain" => Some(Kind::Chain),
-            _ => None,
+            "random" => Ok(Kind::Random),
+            "dense" => Ok(Kind::Dense),
+            "chain" => Ok(Kind::Chain),
+            _ => Err(UnknownKind),
         }
     }
 }
+
+impl fmt::Display for UnknownKind {
+    fn fmt<W: fmt::Write>(&self, f: &mut fmt::Formatter<W>) -> fmt::Result {
+        write!(f, "the kinds are random, dense and chain")
+    }
+}
+
+impl Error for UnknownKind {}

@@ -8,57 +8,48 @@ mod growth;
 mod kind;
 mod sample;
 
-use crate::growth::{ENTRIES, count_reached, grow_whole};
+use crate::growth::{ENTRIES, MOST_GROWINGS, count_reached, grow};
 use crate::kind::Kind;
 use crate::sample::{FACTS, JOBS};
-use anyhow::anyhow;
+use anyhow::bail;
 use reach::open::open_table;
 use sets::facts::FactSet;
 use std::env;
 use strips::header::Header;
 use strips::loaded::Loaded;
 
-/// Opens the sample of this kind, grows it if `grown` says so, and prints what came of it.
-fn show(rt: &HostRuntime, kind: Kind, grown: bool) -> anyhow::Result<()> {
+/// Opens the sample of this kind, grows it until it is settled, or `most` times, and prints what came of it.
+fn show(rt: &HostRuntime, kind: Kind, most: u16) -> anyhow::Result<()> {
     let sample = kind.sample();
-    let Ok(header) = Header::new(FACTS, JOBS, sample.start, FactSet::empty()) else {
-        return Err(anyhow!("the sample has no header"));
-    };
     let task = Loaded {
-        header,
+        header: Header::new(FACTS, JOBS, sample.start, FactSet::empty())?,
         rows: &sample.rows,
     };
     let mut table = [0; ENTRIES];
-    let Ok(()) = open_table(&task, &mut table) else {
-        return Err(anyhow!("the table is short"));
-    };
-    let mut layers = 0;
-    if grown {
-        let Ok(grown) = grow_whole(&task, &mut table) else {
-            return Err(anyhow!("the table is short"));
-        };
-        layers = grown;
-    }
-    let name = kind.name();
+    open_table(&task, &mut table)?;
+    let layers = grow(&task, &mut table, most)?;
     let reached = count_reached(&table);
-    println!(rt; "{name} layers {layers} reached {reached}")?;
+    println!(rt; "{kind} layers {layers} reached {reached}")?;
+    Ok(())
+}
+
+fn show_all(rt: &HostRuntime) -> anyhow::Result<()> {
+    for kind in [Kind::Random, Kind::Dense, Kind::Chain] {
+        show(rt, kind, MOST_GROWINGS)?;
+    }
     Ok(())
 }
 
 fn run(rt: &HostRuntime) -> anyhow::Result<()> {
     let mut words = env::args(rt)?.skip(1);
     let Some(word) = words.next() else {
-        show(rt, Kind::Random, true)?;
-        show(rt, Kind::Dense, true)?;
-        return show(rt, Kind::Chain, true);
+        return show_all(rt);
     };
-    let Some(kind) = Kind::named(word.as_str()) else {
-        return Err(anyhow!("the kinds are random, dense and chain"));
-    };
+    let kind = word.parse::<Kind>()?;
     match words.next() {
-        None => show(rt, kind, true),
-        Some(word) if word.as_str() == "opened" => show(rt, kind, false),
-        Some(_) => Err(anyhow!("behind the kind comes opened, or nothing")),
+        None => show(rt, kind, MOST_GROWINGS),
+        Some(word) if word.as_str() == "opened" => show(rt, kind, 0),
+        Some(_) => bail!("behind the kind comes opened, or nothing"),
     }
 }
 

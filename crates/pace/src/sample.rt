@@ -2,6 +2,7 @@
 use crate::draws::Draws;
 use crate::kind::Kind;
 use sets::facts::FactSet;
+use std::array;
 use strips::row::Row;
 
 /// How many facts a sample has.
@@ -41,6 +42,7 @@ fn step(j: u8) -> Row {
     }
 }
 
+// A match for each step: a trait with three implementations would be longer.
 impl Kind {
     fn start(self, draws: &mut Draws) -> FactSet {
         match self {
@@ -62,10 +64,7 @@ impl Kind {
     pub fn sample(self) -> Sample {
         let mut draws = Draws::new();
         let start = self.start(&mut draws);
-        let mut rows = [row(FactSet::empty(), FactSet::empty(), FactSet::empty()); ROWS];
-        for j in 0..JOBS {
-            rows[j as usize] = self.row(j, &mut draws);
-        }
+        let rows = array::from_fn(|j| self.row(j as u8, &mut draws));
         Sample { start, rows }
     }
 }
