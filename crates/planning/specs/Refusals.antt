@@ -6,11 +6,32 @@
 --   Refused k i r   the answer r is the refusal with number k and place i
 use Rattle.std.specs.Prelude.{◌≡◌, ℕ, List, ◌++◌, codes, decimal, Result, IsErrAnd}
 use Rattle.planning.specs.declared.refusal.Cause.{Cause}
-use Rattle.planning.specs.declared.refusal.Cause.TheVariants.{NotRising, Misfit, NoSuchJob, SheetFull, NoRounds, Settled}
+use Rattle.planning.specs.declared.refusal.Cause.TheVariants.{
+  Truncated,
+  OtherMark,
+  WrongLength,
+  FactCount,
+  NoSuchFact,
+  NotRising,
+  AddsMeetDeletes,
+  BytesFollow,
+  Misfit,
+  NoSuchJob,
+  SheetFull,
+  NoRounds,
+  Settled,
+}
 use Rattle.planning.specs.declared.refusal.Refusal.{Refusal}
 
 abbrev pub number : Cause → ℕ
+number Truncated = 1
+number OtherMark = 2
+number WrongLength = 3
+number FactCount = 4
+number NoSuchFact = 5
 number NotRising = 6
+number AddsMeetDeletes = 7
+number BytesFollow = 8
 number Misfit = 9
 number NoSuchJob = 10
 number SheetFull = 11

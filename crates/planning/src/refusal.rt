@@ -11,10 +11,24 @@ use verdicts::sheet::ShortSheet;
 /// Why a call is refused, by its number.
 #[derive(Clone, Copy, Debug, PartialEq, Eq)]
 pub enum Cause {
+    /// A file ends before a record that is due does.
+    Truncated = 1,
+    /// A record has another mark than the one that is due.
+    OtherMark = 2,
+    /// A record's length isn't right for its kind.
+    WrongLength = 3,
+    /// The number of facts is 0 or above 128.
+    FactCount = 4,
+    /// A fact is `n` or above.
+    NoSuchFact = 5,
     /// A list of numbers doesn't rise strictly.
     NotRising = 6,
-    /// The memory or the task isn't the book's: there are fewer entries than n(n+1)/2, fewer sheet places
-    /// than rounds, or the task's `n` or `m` isn't the book's.
+    /// A job adds and deletes one fact.
+    AddsMeetDeletes = 7,
+    /// Bytes follow the last record.
+    BytesFollow = 8,
+    /// The memory or the task isn't the right one: there are fewer rows than `m`, fewer entries than
+    /// n(n+1)/2, fewer sheet places than rounds, or the task's `n` or `m` isn't the book's.
     Misfit = 9,
     /// A job number is `m` or above.
     NoSuchJob = 10,
