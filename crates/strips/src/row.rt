@@ -8,7 +8,7 @@ use sets::facts::FactSet;
 // The parts of a `Job` in a type of their own, so that a row is not taken for the job that it stands for.
 /// A job as it was read: it may name facts that the task doesn't have, and one fact in both adds and
 /// deletes.
-#[derive(Clone, Copy)]
+#[derive(Clone, Copy, Default)]
 pub struct Row {
     pub zone: u8,
     pub needs: FactSet,
