@@ -1,0 +1,10 @@
+pub mod FactLists
+pub mod RecordLaws
+pub mod BodyLaws
+pub mod TaskReading
+pub mod TaskLaws
+pub mod TasksWithFiles
+pub mod SheetLaws
+pub mod Once
+pub mod OneLoading
+pub mod OneReading
