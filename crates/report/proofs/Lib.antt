@@ -1,0 +1,6 @@
+mod GrowingLaws
+mod AnswerLaws
+mod LoadingLaws
+mod PlanLaws
+mod FilesLaws
+mod OneText

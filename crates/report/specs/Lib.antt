@@ -1,0 +1,5 @@
+pub mod Lines
+pub mod Growing
+pub mod Answers
+pub mod Files
+pub mod Printed

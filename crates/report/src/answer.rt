@@ -1,0 +1,28 @@
+//! The answer to a sheet.
+ghost use Rattle.report.specs.Answers.{AnswersRuns};
+ghost use Rattle.strips.specs.Rules.{apart};
+
+use crate::grow::grow_until_decided;
+use planning::book::Book;
+use planning::refusal::Refusal;
+use planning::report::Report;
+use sets::jobs::JobSet;
+use strips::rules::Apart;
+use strips::task::Task;
+
+/// Grows the table under apart until a distance or none is told, and judges the sheet.
+///
+/// Where the book, the table and the sheet come from an accepted opening of this task and any list of growings under
+/// apart, addings, droppings and judgings after it, this isn't refused, and what is answered is true of the
+/// task and of the rounds that the list gives.
+pub(crate) fn answer<S: Task>(
+    task: &S,
+    mut book: Book,
+    table: &mut [u16],
+    sheet: &[JobSet],
+) -> Result<Report, Refusal>
+    ensures { AnswersRuns (S.Task.meaning task.now) apart book table.old sheet.now result }
+{
+    grow_until_decided(&mut book, task, table)?;
+    book.judge(task, &Apart, table, sheet)
+}

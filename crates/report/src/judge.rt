@@ -1,0 +1,84 @@
+//! Judging a sheet file on a task file.
+ghost use Rattle.report.specs.Files.{SizeChecked, TaskLoaded, PlanAnswered, FilesAnswered};
+ghost use Rattle.std.specs.Prelude.{◌≡◌, length};
+
+use crate::answer::answer;
+use crate::lines::Refused;
+use files::load::load;
+use files::sheet::read_sheet;
+use planning::book::Book;
+use planning::refusal::{Cause, Refusal};
+use planning::report::Report;
+use sets::jobs::JobSet;
+use strips::header::Header;
+use strips::loaded::Loaded;
+use strips::row::Row;
+use strips::task::Task;
+
+/// The most bytes of a file.
+const MOST_BYTES: usize = 60_000;
+
+/// The most jobs of a task.
+const MOST_JOBS: usize = 255;
+
+/// The most rounds of a sheet.
+const MOST_ROUNDS: usize = 500;
+
+/// The pairs of 128 facts, the most that a task has.
+const MOST_PAIRS: usize = 8_256;
+
+/// Refuses a file of more than 60,000 bytes with 1, place 60,000.
+fn check_size(file: &[u8]) -> Result<(), Refusal>
+    ensures { SizeChecked file.now result }
+{
+    if file.len() > MOST_BYTES {
+        return Err(Cause::Truncated.at(MOST_BYTES));
+    }
+    Ok(())
+}
+
+/// Loads a task file into the rows, of which there are 255.
+fn load_task(file: &[u8], rows: &mut [Row]) -> Result<Header, Refusal>
+    requires { length rows.old ≡ 255 }
+    ensures { TaskLoaded file.now result rows.new }
+{
+    check_size(file)?;
+    load(file, rows)
+}
+
+// Opening and answering are never refused: there are entries for 128 facts, and book, table and sheet go together.
+/// What a sheet file is answered for the task, where the table has entries for 128 facts and the sheet 500 places.
+fn judge_plan<S: Task>(
+    task: &S,
+    plan_file: &[u8],
+    table: &mut [u16],
+    sheet: &mut [JobSet],
+) -> Result<Report, Refusal>
+    requires entries { length table.old ≡ 8256 }
+    requires places { length sheet.old ≡ 500 }
+    ensures { PlanAnswered (S.Task.meaning task.now) plan_file.now result }
+{
+    check_size(plan_file)?;
+    let mut book = Book::open(task, table)?;
+    read_sheet(&mut book, sheet, plan_file)?;
+    answer(task, book, table, sheet)
+}
+
+/// Loads the task file, reads the sheet file, grows the table until a distance or none is told, and judges.
+///
+/// The task file is refused before the sheet file is looked at. Each is refused with 1, place 60,000, if it has more
+/// than 60,000 bytes, before anything of it is read; else as `load` refuses it where 255 rows are supplied, or as
+/// `read_sheet` does where 500 places are and none is in use.
+pub fn judge_files(task_file: &[u8], plan_file: &[u8]) -> Result<Report, Refused>
+    ensures { FilesAnswered task_file.now plan_file.now result }
+{
+    let mut rows = [Row::default(); MOST_JOBS];
+    let mut table = [0; MOST_PAIRS];
+    let mut sheet = [JobSet::empty(); MOST_ROUNDS];
+    let header = load_task(task_file, &mut rows).map_err(Refused::Task)?;
+    let task = Loaded {
+        header,
+        rows: &rows,
+    };
+    judge_plan(&task, plan_file, &mut table, &mut sheet).map_err(Refused::Plan)
+}
