@@ -6,6 +6,14 @@ mod calls;
 #[cfg(test)]
 mod lift;
 #[cfg(test)]
+mod parcels;
+#[cfg(test)]
+mod reports;
+#[cfg(test)]
+mod sheet_files;
+#[cfg(test)]
+mod task_files;
+#[cfg(test)]
 mod twin;
 #[cfg(test)]
 mod work;
