@@ -4,6 +4,8 @@
 #[cfg(test)]
 mod calls;
 #[cfg(test)]
+mod issuing;
+#[cfg(test)]
 mod lift;
 #[cfg(test)]
 mod parcels;

@@ -2,3 +2,4 @@ mod SheetLaws
 mod Invariant
 mod Judgements
 mod ListsOfCalls
+mod IssuingLaws

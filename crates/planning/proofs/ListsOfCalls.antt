@@ -1,5 +1,5 @@
 -- The theorem on lists of calls.
-use Rattle.std.proofs.Common.{◌≡◌, ℕ, min, List, [], ◌∷◌, length, Ok, Result, sym, refl, ap, ◌∙◌, inl, inr, arith}
+use Rattle.std.proofs.Common.{◌≡◌, ℕ, min, List, [], ◌∷◌, length, Ok, Err, Result, sym, refl, ap, ◌∙◌, inl, inr, arith}
 use Rattle.std.specs.Cmp.{both_ways as same_tests}
 use Rattle.std.proofs.lemmas.Bool.{both_ways}
 use Rattle.sets.specs.declared.jobs.JobSet.{JobSet}
@@ -17,7 +17,7 @@ use Rattle.planning.specs.declared.report.Distance.{Distance}
 use Rattle.planning.specs.declared.report.Distance.TheVariants.{Told, NoPlan, AtLeast}
 use Rattle.planning.specs.declared.report.Report.{Report}
 use Rattle.planning.specs.Calls.{Judging}
-use Rattle.planning.specs.Runs.{World, Call, grow, add, drop, judge, Step, Run, opened, called, Story, growings, sheet_of}
+use Rattle.planning.specs.Runs.{World, Call, grow, add, drop, judge, issue, Step, Run, opened, called, Story, growings, sheet_of}
 use Rattle.planning.specs.Main.{ToldAfter, EntryAfter, Worked, Alike, Stories, ListsOfCalls, HoldsOfRuns}
 use Rattle.planning.proofs.Invariant.{Inv, length_is, grown, added, dropped, first_inv}
 use Rattle.planning.proofs.Judgements.{judged_well}
@@ -31,6 +31,8 @@ module _ (T : Meaning) (R : Says) (ok : Admitted T) (law : Lawful R) (L : ℕ) (
   stepped cs w (add js) w' inv (r, s, e) = rw e (added inv js r w'.book w'.sheet s)
   stepped cs w drop w' inv (r, s, e, f) = rw (e, f) (dropped inv r w'.book s)
   stepped cs w judge w' inv (r, s, e) = rw e inv
+  stepped cs w issue w' inv (Ok i, (_, _, _, is), b, e, f) = rw (b, is, e, f) inv
+  stepped cs w issue w' inv (Err e', (_, is), b, e, f) = rw (b, is, e, f) inv
 
   module _ (w₀ : World) (start : Kept [] w₀) where
     run_kept : (cs : List Call) (w : World) → Run T R w₀ cs w → Kept cs w

@@ -3,5 +3,6 @@ pub mod Lists
 pub mod Reports
 pub mod Calls
 pub mod Adding
+pub mod Issuing
 pub mod Runs
 pub mod Main

@@ -15,7 +15,11 @@
 --   ListsOfCalls            so it is for every admitted task and every lawful rule
 --   HoldsOfRuns             the same for one task, rule, book, table and sheet and one answer of judging, for
 --                           all lists of calls that lead there
-use Rattle.std.specs.Prelude.{◌≡◌, ℕ, suc, ◌<◌, ◌≤◌, min, true, ◌⊎◌, ◌↔◌, ⊤, List, length, Ok, Result, slice_index}
+--   IssuedIfPlan T R rs r   what issuing answers of the rounds rs of a list of calls: they are a plan, and the book
+--                           is issued; or it is refused with 14, and they are none
+--   IssuedOfRuns            so it is for one task, rule, book, table and sheet and one answer of issuing, for all
+--                           lists of calls that lead there
+use Rattle.std.specs.Prelude.{◌≡◌, ℕ, suc, ◌<◌, ◌≤◌, min, true, ◌⊎◌, ◌↔◌, ⊤, List, length, Ok, Err, Result, slice_index}
 use Rattle.sets.specs.declared.jobs.JobSet.{JobSet}
 use Rattle.strips.specs.Tasks.{Meaning, Admitted}
 use Rattle.strips.specs.Rules.{Says, Lawful}
@@ -26,10 +30,13 @@ use Rattle.layers.specs.Layers.{Layer, First, GoalAt, Distance as IsDistance}
 use Rattle.layers.specs.Bounds.{Settles}
 use Rattle.reach.specs.Tables.{Table, entry}
 use Rattle.planning.specs.declared.book.Book.{Book}
+use Rattle.planning.specs.declared.issued.Issued.{Issued}
+use Rattle.planning.specs.declared.issued.NotIssued.{NotIssued}
 use Rattle.planning.specs.declared.refusal.Refusal.{Refusal}
 use Rattle.planning.specs.declared.report.Distance.{Distance}
 use Rattle.planning.specs.declared.report.Distance.TheVariants.{Told, NoPlan, AtLeast}
 use Rattle.planning.specs.declared.report.Report.{Report}
+use Rattle.planning.specs.Refusals.{told}
 use Rattle.planning.specs.Reports.{excess_of, Shortest}
 use Rattle.planning.specs.Calls.{Judging}
 use Rattle.planning.specs.Runs.{World, Call, Story, growings, sheet_of}
@@ -92,3 +99,12 @@ pub record HoldsOfRuns (T : Meaning) (R : Says) (b : Book) (tb : Table) (sh : Li
   pub answer : (σ : Story T R) → σ.last ≡ record { book = b; table = tb; sheet = sh }
       → (rep : Report) × (r ≡ Ok rep)
       × JudgedWell T R stories.last_layer (growings σ.calls) (sheet_of T.m (length σ.first.sheet) σ.calls) rep
+
+abbrev pub IssuedIfPlan : Meaning → Says → List Round → Result Issued NotIssued → Type 0
+IssuedIfPlan T R rs (Ok i) = Plan T R rs
+IssuedIfPlan T R rs (Err e) = (¬ Plan T R rs) × (told e.refusal ≡ (14, 0))
+
+abbrev pub IssuedOfRuns : Meaning → Says → Book → Table → List JobSet → Result Issued NotIssued → Type 0
+IssuedOfRuns T R b tb sh r =
+    (σ : Story T R) → σ.last ≡ record { book = b; table = tb; sheet = sh }
+    → IssuedIfPlan T R (sheet_of T.m (length σ.first.sheet) σ.calls) r

@@ -20,6 +20,7 @@ use Rattle.planning.specs.declared.refusal.Cause.TheVariants.{
   SheetFull,
   NoRounds,
   Settled,
+  UnsoundSheet,
 }
 use Rattle.planning.specs.declared.refusal.Refusal.{Refusal}
 
@@ -37,6 +38,7 @@ number NoSuchJob = 10
 number SheetFull = 11
 number NoRounds = 12
 number Settled = 13
+number UnsoundSheet = 14
 
 abbrev pub told : Refusal → ℕ × ℕ
 told e = (number e.cause, e.place)

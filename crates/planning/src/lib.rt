@@ -5,6 +5,7 @@
 #![tactic(auto)]
 
 pub mod book;
+pub mod issued;
 pub mod lists;
 pub mod refusal;
 pub mod report;

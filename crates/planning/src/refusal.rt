@@ -38,6 +38,8 @@ pub enum Cause {
     NoRounds = 12,
     /// A settled book grows no more.
     Settled = 13,
+    /// A sheet that isn't sound isn't issued.
+    UnsoundSheet = 14,
 }
 
 /// A refusal: its cause, which has a number, and its place.

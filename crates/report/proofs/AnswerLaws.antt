@@ -1,5 +1,5 @@
 -- What is judged after growing to the end is the answer.
-use Rattle.std.proofs.Common.{◌≡◌, ℕ, zero, suc, List, ◌++◌, length, Ok, Result, refl, arith}
+use Rattle.std.proofs.Common.{◌≡◌, ℕ, zero, suc, List, ◌++◌, length, Ok, Err, Result, refl, arith}
 use Rattle.std.proofs.lemmas.Bool.{both_ways}
 use Rattle.sets.specs.declared.jobs.JobSet.{JobSet}
 use Rattle.strips.specs.Tasks.{Meaning}
@@ -14,7 +14,7 @@ use Rattle.planning.specs.declared.report.Distance.TheVariants.{Told, NoPlan, At
 use Rattle.planning.specs.declared.report.Report.{Report}
 use Rattle.planning.specs.Calls.{Fits, Opened, Grew, misfit, no_more, settles, rises, Dropped, no_round, one_less, ToldBy, Judging}
 use Rattle.planning.specs.Adding.{Added, short, faulty, full, appended}
-use Rattle.planning.specs.Runs.{World, Call, grow, add, drop, judge, Step, Run, opened, called, Story, sheet_of}
+use Rattle.planning.specs.Runs.{World, Call, grow, add, drop, judge, issue, Step, Run, opened, called, Story, sheet_of}
 use Rattle.planning.specs.Main.{ToldAfter, Decided, JudgedWell, HoldsOfRuns}
 use Rattle.report.specs.Growing.{growths, GrownOut}
 use Rattle.report.specs.Answers.{TrueOf, Answer, AnswersRuns}
@@ -53,6 +53,8 @@ module _ (T : Meaning) (R : Says) where
   step_fits w (add js) w' f (r, s, e) = rw e (add_fits w.book w.table w.sheet js r w'.book w'.sheet f s)
   step_fits w drop w' f (r, s, e, _) = rw e (drop_fits w.book w.table r w'.book f s)
   step_fits w judge w' f (r, _, e) = rw e f
+  step_fits w issue w' f (Ok _, (_, _, _, is), b, e, _) = rw (b, is, e) f
+  step_fits w issue w' f (Err _, (_, is), b, e, _) = rw (b, is, e) f
 
   run_fits : {w₀ w : World} {cs : List Call} → Fits T w₀.book w₀.table → Run T R w₀ cs w → Fits T w.book w.table
   run_fits f opened = f

@@ -1,0 +1,40 @@
+-- What issuing answers, by what judging does, and after a list of calls.
+use Rattle.std.proofs.Common.{◌≡◌, ℕ, List, Ok, Err, Result, refl}
+use Rattle.sets.specs.declared.jobs.JobSet.{JobSet}
+use Rattle.strips.specs.Tasks.{Meaning, Admitted}
+use Rattle.strips.specs.Rules.{Says, Lawful}
+use Rattle.verdicts.specs.declared.verdict.Verdict.TheVariants.{Sound}
+use Rattle.verdicts.specs.Verdicts.{IsSound}
+use Rattle.verdicts.specs.Sheets.{rounds_of, VerdictOn}
+use Rattle.verdicts.proofs.SheetLaws.{verdict_on}
+use Rattle.reach.specs.Tables.{Table}
+use Rattle.planning.specs.declared.book.Book.{Book}
+use Rattle.planning.specs.declared.issued.Issued.{Issued}
+use Rattle.planning.specs.declared.issued.NotIssued.{NotIssued}
+use Rattle.planning.specs.declared.refusal.Refusal.{Refusal}
+use Rattle.planning.specs.declared.report.Report.{Report}
+use Rattle.planning.specs.Refusals.{told}
+use Rattle.planning.specs.Calls.{Reported}
+use Rattle.planning.specs.Issuing.{Unsound, misfit, unsound, SoundOrNot, Issuing}
+use Rattle.planning.specs.Runs.{Call, sheet_of}
+use Rattle.planning.specs.Main.{Worked, IssuedIfPlan, IssuedOfRuns}
+use Rattle.planning.proofs.ListsOfCalls.{stories}
+
+module _ (T : Meaning) (R : Says) (ok : Admitted T) (law : Lawful R) (b : Book) (tb : Table) (sh : List JobSet) where
+  verdict_of : (rep : Report) → Reported T R b tb sh rep → VerdictOn T R (rounds_of T.m b.rounds sh) rep.verdict
+  verdict_of rep h = verdict_on T R ok law b.rounds sh rep.verdict h.verdict
+
+  pub found_sound : (rep : Report) → Reported T R b tb sh rep → rep.verdict ≡ Sound → SoundOrNot T R b tb sh (Ok tt)
+  found_sound rep h is = (h.fits, h.places, rw is at (verdict_of rep h))
+
+  pub found_unsound : (rep : Report) → Reported T R b tb sh rep → (IsSound rep.verdict → ⊥) → (e : Refusal) → told e ≡ (14, 0) → Unsound T R b tb sh e
+  found_unsound rep h not e is = unsound h.fits h.places rep.verdict (verdict_of rep h) not is
+
+  if_plan : {L k : ℕ} {cs : List Call} → Worked T R L k cs (record { book = b; table = tb; sheet = sh }) → (r : Result Issued NotIssued)
+      → Issuing T R b tb sh r → IssuedIfPlan T R (sheet_of T.m k cs) r
+  if_plan w (Ok i) (_, _, verdict, _) = rw w.sheet at (verdict.sound_is_plan.0 refl)
+  if_plan w (Err e) (misfit why is, _) = let (rep, bad, _) = w.judged (Err e.refusal) (why, is) in absurd cc
+  if_plan w (Err e) (unsound _ _ v verdict not is, _) = ((λ plan. not (verdict.sound_is_plan.1 (rw w.sheet plan))), is)
+
+  pub issued_of_runs : (r : Result Issued NotIssued) → Issuing T R b tb sh r → IssuedOfRuns T R b tb sh r
+  issued_of_runs r answer σ here = if_plan (rw here at ((stories T R ok law).worked σ)) r answer
