@@ -11,7 +11,7 @@ use Rattle.strips.specs.declared.row.Row.{Row}
 use Rattle.planning.specs.Lists.{clean}
 use Rattle.files.specs.declared.job.JobBody.{JobBody}
 use Rattle.files.specs.Reading.{Split, RowRead}
-use Rattle.files.specs.Sets.{facts_of, Listed}
+use Rattle.files.specs.Sets.{facts_of, ListRead}
 use Rattle.files.specs.TaskFiles.{job_body, RowLimits}
 use Rattle.files.specs.TaskFaults.{Sized, needs_of, adds_of, deletes_of, Meet, BodyFault}
 use Rattle.files.specs.TaskFaults.BodyFault.{wrong_length, needs, adds, deletes, meet}
@@ -59,7 +59,7 @@ sets_meet a d xs ys added deleted joint =
 
 -- what the parts of a body were read into
 module _ (n at : ℕ) (b : List ℕ) (q : JobBody) (needed added deleted : FactSet) (parted : Split b at (Ok q))
-    (first : Listed n q.needs.now at (Ok needed)) (second : Listed n q.adds.now at (Ok added)) (third : Listed n q.deletes.now at (Ok deleted)) where
+    (first : ListRead n q.needs.now at (Ok needed)) (second : ListRead n q.adds.now at (Ok added)) (third : ListRead n q.deletes.now at (Ok deleted)) where
   -- the sets are the three lists of the body
   needs_are : facts_of needed ≡ needs_of b
   needs_are = first.1 ∙ parted.2

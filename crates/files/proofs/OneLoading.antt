@@ -5,13 +5,13 @@ use Rattle.strips.specs.declared.row.Row.{Row}
 use Rattle.planning.specs.Refusals.{told}
 use Rattle.files.specs.Records.{Mark, TK, AC, ST, GO, size_at, body_at, place}
 use Rattle.files.specs.Sets.{ListFault}
-use Rattle.files.specs.TaskFaults.{Sized, needs_of, adds_of, deletes_of, Meet, BodyFault, n_of, m_of, TaskFault, JobFault, FactsFault, Fault, FirstFault}
+use Rattle.files.specs.TaskFaults.{Sized, needs_of, adds_of, deletes_of, Meet, BodyFault, n_of, m_of, TaskFault, JobFault, FactsFault, TaskFileFault, FirstTaskFault}
 use Rattle.files.specs.TaskFaults.BodyFault.{wrong_length, needs, adds, deletes, meet}
 use Rattle.files.specs.TaskFaults.TaskFault.{not_due as task_not_due, wrong_length as task_length, fact_count, few_rows}
 use Rattle.files.specs.TaskFaults.JobFault.{not_due as job_not_due, body}
 use Rattle.files.specs.TaskFaults.FactsFault.{not_due as list_not_due, list}
-use Rattle.files.specs.TaskFaults.Fault.{task, job, start, goal, bytes_follow}
-use Rattle.files.specs.Loading.{OneAnswer}
+use Rattle.files.specs.TaskFaults.TaskFileFault.{task, job, start, goal, bytes_follow}
+use Rattle.files.specs.Loading.{OneLoading}
 use Rattle.files.proofs.Once.{Once, Tells, tells_once, Else, else_once, Test, test_once, DueTest, ListTest, once_by, first_once, due_once, list_fault_once, clean_once}
 use Rattle.files.proofs.TaskLaws.{one_task, not_at_fault}
 
@@ -67,7 +67,7 @@ at_once : (i j : ℕ) {F G : ℕ → Type 0} → Once F → Once G → Once (At 
 at_once i j f = else_once (λ c lt (is, _). omega arith) (λ c d (_, x) (_, y). f c d x y)
 
 -- record i of a file, or the bytes behind the last
-fault_once : (file : List ℕ) (rows i : ℕ) → Once (Fault file rows i)
+fault_once : (file : List ℕ) (rows i : ℕ) → Once (TaskFileFault file rows i)
 fault_once file rows i =
     once_by checks
     (at_once i 0 (task_fault_once file rows)
@@ -75,7 +75,7 @@ fault_once file rows i =
     (at_once i (m_of file + 1) (facts_fault_once ST (n_of file) file (place file i))
     (at_once i (m_of file + 2) (facts_fault_once GO (n_of file) file (place file i)) tells_once))))
   where
-    checks : (c : ℕ) → Fault file rows i c
+    checks : (c : ℕ) → TaskFileFault file rows i c
         → At i 0 (TaskFault file rows) (UpTo i (m_of file) (JobFault (n_of file) file (place file i))
         (At i (m_of file + 1) (FactsFault ST (n_of file) file (place file i))
         (At i (m_of file + 2) (FactsFault GO (n_of file) file (place file i)) (Tells (place file i < length file) 8)))) c
@@ -86,12 +86,12 @@ fault_once file rows i =
     checks c (bytes_follow is lt e) = inr (omega arith, inr (omega arith, inr (omega arith, inr (omega arith, (lt, e)))))
 
 -- a file has one first fault
-pub one_task_fault : (file : List ℕ) (rows c p c' p' : ℕ) → FirstFault file rows c p → FirstFault file rows c' p' → (c ≡ c') × (p ≡ p')
+pub one_task_fault : (file : List ℕ) (rows c p c' p' : ℕ) → FirstTaskFault file rows c p → FirstTaskFault file rows c' p' → (c ≡ c') × (p ≡ p')
 one_task_fault file rows c p c' p' f g =
-    let (places, numbers) = first_once (Fault file rows) (fault_once file rows) f.at g.at c c' f.fault g.fault f.none_before g.none_before in
+    let (places, numbers) = first_once (TaskFileFault file rows) (fault_once file rows) f.at g.at c c' f.fault g.fault f.none_before g.none_before in
     (numbers, f.place_is ∙ ap (place file) places ∙ sym g.place_is)
 
-pub one_answer : OneAnswer
+pub one_answer : OneLoading
 one_answer file rows rows' rows'' (Ok h) (Ok h') (new, t, _, is) (new', t', _, is') =
     let same = one_task file h h' new new' t t' in (
       (same.n_is, same.m_is, same.start_is, same.goal_is),

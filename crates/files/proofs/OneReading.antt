@@ -9,7 +9,7 @@ use Rattle.planning.specs.declared.book.Book.{Book}
 use Rattle.planning.specs.Refusals.{told}
 use Rattle.planning.specs.Adding.{free, Added, short as too_short, faulty as list_fault, full as no_place, appended}
 use Rattle.files.specs.Records.{RD, body_at, place}
-use Rattle.files.specs.SheetFiles.{RoundFault, not_due, jobs, full, Fault, FirstFault, Refusing, short, faulty, AllAdded, OneReading}
+use Rattle.files.specs.SheetFiles.{RoundFault, not_due, jobs, full, SheetFileFault, FirstSheetFault, Refusing, short, faulty, AllAdded, OneReading}
 use Rattle.files.proofs.Once.{Once, Tells, tells_once, DueTest, ListTest, once_by, first_once, due_once, clean_once}
 use Rattle.files.proofs.SheetLaws.{one_list, refused_exactly}
 
@@ -24,11 +24,11 @@ module _ (m places r : ℕ) (file : List ℕ) (p : ℕ) where
   round_fault_once = once_by round_checks (due_once file p RD (clean_once 10 m (body_at file p) tells_once))
 
 -- a file has one first fault
-pub one_sheet_fault : (m places r : ℕ) (file : List ℕ) (c p c' p' : ℕ) → FirstFault m places r file c p → FirstFault m places r file c' p'
+pub one_sheet_fault : (m places r : ℕ) (file : List ℕ) (c p c' p' : ℕ) → FirstSheetFault m places r file c p → FirstSheetFault m places r file c' p'
     → (c ≡ c') × (p ≡ p')
 one_sheet_fault m places r file c p c' p' f g =
     let (same, numbers) =
-    first_once (Fault m places r file) (λ i c d (_, x) (_, y). round_fault_once m places (r + i) file (place file i) c d x y)
+    first_once (SheetFileFault m places r file) (λ i c d (_, x) (_, y). round_fault_once m places (r + i) file (place file i) c d x y)
     f.at g.at c c' f.fault g.fault f.none_before g.none_before in
     (numbers, f.place_is ∙ ap (place file) same ∙ sym g.place_is)
 

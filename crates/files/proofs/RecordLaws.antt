@@ -56,12 +56,12 @@ front file p le =
 pub record_stands : (file : List ℕ) (p : ℕ) (k : Mark) → Due file p k → Stands file p (record_bytes k (body_at file p)) (behind file p)
 record_stands file p k (whole, is) =
     let size : length (body_at file p) ≡ size_at file p = length-take-le (size_at file p) (drop (p + 3) file) (simp length-drop (omega arith)) in
-    let here = front file p whole.0 in
+    let here = front file p (omega arith) in
     let split = take-append-drop (size_at file p) (drop (p + 3) file) in
     let rest = drop-drop (size_at file p) (p + 3) file in
     let first = ap (λ (m : Mark). m.0) is in
     let second = ap (λ (m : Mark). m.1) is in
-    record { end = omega arith; within = whole.1; bytes = cc }
+    record { end = omega arith; within = whole; bytes = cc }
 
 -- what a record that stands in a file is
 module _ (file : List ℕ) (p : ℕ) (k : Mark) (b : List ℕ) (q : ℕ) (stands : Stands file p (record_bytes k b) q) where
@@ -79,7 +79,7 @@ module _ (file : List ℕ) (p : ℕ) (k : Mark) (b : List ℕ) (q : ℕ) (stands
       let here = stands_behind in let end = stands.end in let within = stands.within in
       let first : p + 0 ≡ p = omega arith in
       let mark = byte_is 0 in
-      ((omega arith, omega arith), ap₂ {C = Mark} (λ (x y : ℕ). (x, y)) (rw first at mark) (byte_is 1))
+      (omega arith, ap₂ {C = Mark} (λ (x y : ℕ). (x, y)) (rw first at mark) (byte_is 1))
 
   -- its body
   pub stands_body : body_at file p ≡ b

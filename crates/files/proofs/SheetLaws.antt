@@ -11,7 +11,7 @@ use Rattle.planning.specs.declared.refusal.Refusal.{Refusal}
 use Rattle.planning.specs.Lists.{at_fault, clean}
 use Rattle.planning.specs.Adding.{free, Added, short as too_short, faulty as list_fault, full as no_place, appended}
 use Rattle.files.specs.Records.{RD, record_bytes, body_at, behind, place, Due, NotDue, Stands}
-use Rattle.files.specs.SheetFiles.{sheet_bytes, RoundFault, not_due, jobs, full, Fault, Refusing, short, faulty, RoundsFit, AllAdded, Read, OneList}
+use Rattle.files.specs.SheetFiles.{sheet_bytes, RoundFault, not_due, jobs, full, SheetFileFault, Refusing, short, faulty, RoundsFit, AllAdded, Read, OneList}
 use Rattle.files.proofs.FactLists.{clean_at, clean_sound}
 use Rattle.files.proofs.RecordLaws.{due_sound, record_stands, record_first, stands_due, stands_body}
 
@@ -33,7 +33,7 @@ pub record Passed (b : Book) (sh : List JobSet) (file : List ℕ) (p r : ℕ) : 
   pub place_is : p ≡ place file (length rounds)
   pub bytes : file ≡ sheet_bytes rounds ++ drop p file
   pub fit : RoundsFit b.m (length sh) b.rounds rounds
-  pub sound : (i : ℕ) → i < length rounds → (c : ℕ) → Fault b.m (length sh) b.rounds file i c → ⊥
+  pub sound : (i : ℕ) → i < length rounds → (c : ℕ) → SheetFileFault b.m (length sh) b.rounds file i c → ⊥
 
 module _ {b : Book} {sh : List JobSet} {file : List ℕ} {p r : ℕ} (passed : Passed b sh file p r) where
   pub passed_more : Due file p RD → clean b.m (body_at file p) ≡ true → free (length sh) r ≡ true → Passed b sh file (behind file p) (r + 1)
@@ -95,7 +95,7 @@ from_record file rs e (suc i) =
 
 -- no record of rounds that can all be added is at fault
 fit_sound : (b : Book) (sh : List JobSet) (file : List ℕ) (rs : List (List ℕ)) → RoundsFit b.m (length sh) b.rounds rs → file ≡ sheet_bytes rs
-    → (i c : ℕ) → Fault b.m (length sh) b.rounds file i c → ⊥
+    → (i c : ℕ) → SheetFileFault b.m (length sh) b.rounds file i c → ⊥
 fit_sound b sh file rs fit e i c (lt, fault) =
     let (js, others, is, stands, follows) = next_round file (place file i) (drop i rs) (from_record file rs e i) lt in
     let left = rw length-drop at (ap length is) in

@@ -11,9 +11,9 @@ use Rattle.files.specs.declared.counts.Counts.{Counts}
 use Rattle.files.specs.Records.{TK, AC, ST, GO, record_bytes, size_at, body_at, behind, place, Due, Stands}
 use Rattle.files.specs.Sets.{facts_of}
 use Rattle.files.specs.TaskFiles.{job_body, job_bytes, task_bytes, RowLimits, TaskFile}
-use Rattle.files.specs.TaskFaults.{n_of, m_of, TaskFault, JobFault, FactsFault, Fault, FirstFault}
+use Rattle.files.specs.TaskFaults.{n_of, m_of, TaskFault, JobFault, FactsFault, TaskFileFault, FirstTaskFault}
 use Rattle.files.specs.TaskFaults.TaskFault.{not_due, wrong_length, fact_count, few_rows}
-use Rattle.files.specs.TaskFaults.Fault.{task, job, start, goal, bytes_follow}
+use Rattle.files.specs.TaskFaults.TaskFileFault.{task, job, start, goal, bytes_follow}
 use Rattle.files.specs.Reading.{Counted, JobsRead, EndsFault, EndsRead, Parsed}
 use Rattle.files.specs.Reading.EndsFault.{start as start_fault, goal as goal_fault, bytes_follow as more_fault}
 use Rattle.files.specs.Loading.{OneTask}
@@ -34,7 +34,7 @@ none_before : (file : List ℕ) (rows e : ℕ) → ((d : ℕ) → TaskFault file
     → ((j : ℕ) → suc j < e → j < m_of file → (d : ℕ) → JobFault (n_of file) file (place file (suc j)) d → ⊥)
     → (suc (m_of file) < e → (d : ℕ) → FactsFault ST (n_of file) file (place file (suc (m_of file))) d → ⊥)
     → (suc (suc (m_of file)) < e → (d : ℕ) → FactsFault GO (n_of file) file (place file (suc (suc (m_of file)))) d → ⊥)
-    → (suc (suc (suc (m_of file))) < e → length file ≤ place file (suc (suc (suc (m_of file))))) → (i : ℕ) → i < e → (d : ℕ) → Fault file rows i d → ⊥
+    → (suc (suc (suc (m_of file))) < e → length file ≤ place file (suc (suc (suc (m_of file))))) → (i : ℕ) → i < e → (d : ℕ) → TaskFileFault file rows i d → ⊥
 none_before file rows e counts jobs starts goals ends i lt d (task _ fault) = counts d fault
 none_before file rows e counts jobs starts goals ends i lt d (job l is low fault) = jobs l (omega arith) low d (rw is at fault)
 none_before file rows e counts jobs starts goals ends i lt d (start is fault) =
@@ -50,7 +50,7 @@ module _ (file : List ℕ) (rows : ℕ) (k : Counts) (counted : Counted file row
   counts_sound = task_sound file rows counted.0 counted.1 counted.2 counted.3
 
   -- a job record at fault is the first
-  pub job_is_first : (xs : List Row) (e : Refusal) → length xs ≡ k.m → JobsRead k.n file xs (Err e) → FirstFault file rows (told e).0 (told e).1
+  pub job_is_first : (xs : List Row) (e : Refusal) → length xs ≡ k.m → JobsRead k.n file xs (Err e) → FirstTaskFault file rows (told e).0 (told e).1
   job_is_first xs e size (j, low, (fault, at), sound) =
       let m_is = counted.5 in record {
         at = suc j;
@@ -73,9 +73,9 @@ module _ (file : List ℕ) (rows : ℕ) (k : Counts) (counted : Counted file row
     no_job e j _ lt d fault = (jobs_sound k.n file xs p read.0 read.1).1 j (omega (arith, all)) d (rw (← counted.4) at fault)
 
     -- a fault from the start on is the first
-    found_first : (i c at : ℕ) → i ≤ suc (suc (suc (m_of file))) → Fault file rows i c → at ≡ place file i
+    found_first : (i c at : ℕ) → i ≤ suc (suc (suc (m_of file))) → TaskFileFault file rows i c → at ≡ place file i
         → (suc (m_of file) < i → (d : ℕ) → FactsFault ST (n_of file) file (place file (suc (m_of file))) d → ⊥)
-        → (suc (suc (m_of file)) < i → (d : ℕ) → FactsFault GO (n_of file) file (place file (suc (suc (m_of file)))) d → ⊥) → FirstFault file rows c at
+        → (suc (suc (m_of file)) < i → (d : ℕ) → FactsFault GO (n_of file) file (place file (suc (suc (m_of file)))) d → ⊥) → FirstTaskFault file rows c at
     found_first i c at le fault is starts goals = record {
       at = i;
       fault = fault;
@@ -83,7 +83,7 @@ module _ (file : List ℕ) (rows : ℕ) (k : Counts) (counted : Counted file row
       none_before = none_before file rows i counts_sound (no_job i) starts goals (λ h. absurd (omega arith));
     }
 
-    ends_are_first : (c at : ℕ) → EndsFault (n_of file) file (place file (suc (m_of file))) c at → FirstFault file rows c at
+    ends_are_first : (c at : ℕ) → EndsFault (n_of file) file (place file (suc (m_of file))) c at → FirstTaskFault file rows c at
     ends_are_first c at (start_fault fault is) =
         found_first (suc (m_of file)) c at (omega arith) (start (omega arith) fault) is (λ h. absurd (omega arith)) (λ h. absurd (omega arith))
     ends_are_first c at (goal_fault started fault is) =
@@ -151,7 +151,7 @@ module _ (h : Header) (rows : List Row) (file : List ℕ) (t : TaskFile h rows f
   m_is = byte_is file 0 TK counts_body (place file 1) counts_parts.0 4
 
   -- none of them is at fault where there are rows enough
-  pub not_at_fault : (k c p : ℕ) → h.m ≤ k → FirstFault file k c p → ⊥
+  pub not_at_fault : (k c p : ℕ) → h.m ≤ k → FirstTaskFault file k c p → ⊥
   not_at_fault k c p room first =
       let (end, sound) = jobs_sound h.n file rows jobs_end t.limits jobs_parts.0 in
       let here : jobs_end ≡ place file (suc (m_of file)) = end ∙ ap (λ (m : ℕ). place file (suc m)) (sym m_is) in

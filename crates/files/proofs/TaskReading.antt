@@ -12,7 +12,7 @@ use Rattle.planning.specs.Refusals.{told as numbers}
 use Rattle.files.specs.declared.record.Record.TheVariants.{Job}
 use Rattle.files.specs.declared.record.Placed.{Placed}
 use Rattle.files.specs.Records.{Mark, AC, ST, GO, record_bytes, behind, place, Found, Stands, told}
-use Rattle.files.specs.Sets.{facts_of, Listed}
+use Rattle.files.specs.Sets.{facts_of, ListRead}
 use Rattle.files.specs.TaskFiles.{job_body, job_bytes, RowLimits}
 use Rattle.files.specs.TaskFaults.{JobFault, FactsFault}
 use Rattle.files.specs.TaskFaults.JobFault.{not_due, body}
@@ -35,7 +35,7 @@ module _ (n : ℕ) (file : List ℕ) (p : ℕ) (q : Placed) (found : Found file 
 
 -- a record of mark k was found, and its list read
 pub facts_read : (k : Mark) (n : ℕ) (file : List ℕ) (p : ℕ) (q : Placed) → Found file p (Ok q) → (b : List ℕ) → told q.record ≡ (k, b)
-    → (s : FactSet) → Listed n b p (Ok s) → FactsRead k n file p (Ok (s, q.end))
+    → (s : FactSet) → ListRead n b p (Ok s) → FactsRead k n file p (Ok (s, q.end))
 facts_read k n file p q found b is s (sound, listed, plain) =
     let stands = found_stands file p q found k b is in (clean_below n b s sound listed, plain, rw (← listed) at stands)
 

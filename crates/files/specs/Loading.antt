@@ -2,28 +2,28 @@
 --
 --   Loaded file rows r rows'    loading: the rows of the task are written over the first rows, or the first
 --                               fault is told and nothing is written
---   Exact file rows r           a file is refused only if it is the bytes of no task within the limits for
+--   ExactLoading file rows r    a file is refused only if it is the bytes of no task within the limits for
 --                               which there are rows enough
 --   OneTask                     a file is the bytes of at most one task
 --   SameLoading r s             two answers of loading are one: both accept with headers of the same values, or
 --                               both refuse with the same number and place
---   OneAnswer                   loading a file with rows has one answer, and leaves the rows in one way
+--   OneLoading                  loading a file with rows has one answer, and leaves the rows in one way
 use Rattle.std.specs.Prelude.{◌≡◌, ℕ, ◌≤◌, List, ◌++◌, length, drop, Ok, Err, Result, ⊤}
 use Rattle.strips.specs.declared.row.Row.{Row}
 use Rattle.strips.specs.declared.header.Header.{Header}
 use Rattle.planning.specs.declared.refusal.Refusal.{Refusal}
 use Rattle.planning.specs.Refusals.{told}
 use Rattle.files.specs.TaskFiles.{TaskFile, SameTask}
-use Rattle.files.specs.TaskFaults.{FirstFault}
+use Rattle.files.specs.TaskFaults.{FirstTaskFault}
 
 abbrev pub Loaded : List ℕ → List Row → Result Header Refusal → List Row → Type 0
 Loaded file rows (Ok h) rows' =
     (new : List Row) × TaskFile h new file × (h.m ≤ length rows) × (rows' ≡ new ++ drop h.m rows)
-Loaded file rows (Err e) rows' = FirstFault file (length rows) (told e).0 (told e).1 × (rows' ≡ rows)
+Loaded file rows (Err e) rows' = FirstTaskFault file (length rows) (told e).0 (told e).1 × (rows' ≡ rows)
 
-abbrev pub Exact : List ℕ → List Row → Result Header Refusal → Type 0
-Exact file rows (Ok h) = ⊤
-Exact file rows (Err e) = (h : Header) (new : List Row) → TaskFile h new file → ¬ (h.m ≤ length rows)
+abbrev pub ExactLoading : List ℕ → List Row → Result Header Refusal → Type 0
+ExactLoading file rows (Ok h) = ⊤
+ExactLoading file rows (Err e) = (h : Header) (new : List Row) → TaskFile h new file → ¬ (h.m ≤ length rows)
 
 abbrev pub OneTask : Type 0
 OneTask = (file : List ℕ) (h h' : Header) (rows rows' : List Row) → TaskFile h rows file → TaskFile h' rows' file → SameTask h rows h' rows'
@@ -33,6 +33,6 @@ SameLoading (Ok h) (Ok h') = (h.n ≡ h'.n) × (h.m ≡ h'.m) × (h.start ≡ h'
 SameLoading (Err e) (Err e') = told e ≡ told e'
 SameLoading _ _ = ⊥
 
-abbrev pub OneAnswer : Type 0
-OneAnswer = (file : List ℕ) (rows rows' rows'' : List Row) (r s : Result Header Refusal) → Loaded file rows r rows' → Loaded file rows s rows''
+abbrev pub OneLoading : Type 0
+OneLoading = (file : List ℕ) (rows rows' rows'' : List Row) (r s : Result Header Refusal) → Loaded file rows r rows' → Loaded file rows s rows''
     → SameLoading r s × (rows' ≡ rows'')

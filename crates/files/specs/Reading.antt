@@ -35,7 +35,7 @@ use Rattle.files.specs.TaskFaults.{
   TaskFault,
   JobFault,
   FactsFault,
-  FirstFault,
+  FirstTaskFault,
 }
 
 abbrev pub Counted : List ℕ → ℕ → Result Counts Refusal → Type 0
@@ -84,4 +84,4 @@ EndsRead n m file p (Err e) = EndsFault n file p (told e).0 (told e).1
 
 abbrev pub Parsed : List ℕ → ℕ → List Row → Result Header Refusal → Type 0
 Parsed file rows read (Ok h) = TaskFile h (take h.m read) file × (h.m ≤ rows)
-Parsed file rows read (Err e) = FirstFault file rows (told e).0 (told e).1
+Parsed file rows read (Err e) = FirstTaskFault file rows (told e).0 (told e).1

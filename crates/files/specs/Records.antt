@@ -60,7 +60,7 @@ place file zero = 0
 place file (suc i) = behind file (place file i)
 
 abbrev pub Whole : List ℕ → ℕ → Type 0
-Whole file p = (p + 3 ≤ length file) × (behind file p ≤ length file)
+Whole file p = behind file p ≤ length file
 
 abbrev pub Due : List ℕ → ℕ → Mark → Type 0
 Due file p k = Whole file p × (mark_at file p ≡ k)

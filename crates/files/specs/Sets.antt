@@ -5,8 +5,8 @@
 --   Plain s                    the set s is nothing but its facts, as every set in the code is
 --   ListFault k b xs c         the list xs of numbers below b is at fault: refusal c, k for a number too large, else 6
 --   ListChecked k b xs at r    what the check of a list answers; at is the byte of its record
---   Listed n xs at r           what reading a list of facts below n answers; at is the byte of its record
-use Rattle.std.specs.Prelude.{◌≡◌, ℕ, zero, suc, Bool, true, cond, List, [], ◌∷◌, Ok, Err, Result}
+--   ListRead n xs at r         what reading a list of facts below n answers; at is the byte of its record
+use Rattle.std.specs.Prelude.{◌≡◌, ℕ, zero, suc, Bool, true, if◌then◌else◌, List, [], ◌∷◌, Ok, Err, Result}
 use Rattle.sets.specs.declared.facts.FactSet.{FactSet}
 use Rattle.sets.specs.Facts.{has, set_of}
 use Rattle.planning.specs.declared.refusal.Refusal.{Refusal}
@@ -15,7 +15,7 @@ use Rattle.files.specs.Records.{RefusedAt}
 
 unfoldable pub rising : (ℕ → Bool) → ℕ → ℕ → List ℕ
 rising p k zero = []
-rising p k (suc n) = cond (p k) (k ∷ rising p (suc k) n) (rising p (suc k) n)
+rising p k (suc n) = if p k then k ∷ rising p (suc k) n else rising p (suc k) n
 
 abbrev pub facts_of : FactSet → List ℕ
 facts_of s = rising (has s) 0 128
@@ -30,6 +30,6 @@ abbrev pub ListChecked : ℕ → ℕ → List ℕ → ℕ → Result Unit Refusa
 ListChecked k b xs at (Ok _) = clean b xs ≡ true
 ListChecked k b xs at (Err e) = RefusedAt at (ListFault k b xs) e
 
-abbrev pub Listed : ℕ → List ℕ → ℕ → Result FactSet Refusal → Type 0
-Listed n xs at (Ok s) = (clean n xs ≡ true) × (facts_of s ≡ xs) × Plain s
-Listed n xs at (Err e) = RefusedAt at (ListFault 5 n xs) e
+abbrev pub ListRead : ℕ → List ℕ → ℕ → Result FactSet Refusal → Type 0
+ListRead n xs at (Ok s) = (clean n xs ≡ true) × (facts_of s ≡ xs) × Plain s
+ListRead n xs at (Err e) = RefusedAt at (ListFault 5 n xs) e

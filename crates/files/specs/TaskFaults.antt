@@ -11,9 +11,9 @@
 --   TaskFault file rows c      TK is at fault, where that many rows are supplied
 --   JobFault n file p c        the job record at byte p is at fault
 --   FactsFault k n file p c    the record of mark k at byte p, a list of facts, is at fault
---   Fault file rows i c        record i is at fault: refusal c; record m + 3 is what follows the last one, and at fault
---                              if bytes do
---   FirstFault file rows c p   refusal c is that of the first record that is at fault, which begins at byte p
+--   TaskFileFault file rows i c    record i is at fault: refusal c; record m + 3 is what follows the last one, and at
+--                              fault if bytes do
+--   FirstTaskFault file rows c p   refusal c is that of the first record that is at fault, which begins at byte p
 use Rattle.std.specs.Prelude.{◌≡◌, ℕ, suc, ◌+◌, ◌<◌, ◌≤◌, true, List, length, take, drop, ◌≢◌, slice_index}
 use Rattle.sets.specs.Search.{listed}
 use Rattle.strips.specs.Headers.{Limits}
@@ -64,15 +64,15 @@ pub data FactsFault (k : Mark) (n : ℕ) (file : List ℕ) (p c : ℕ) : Type 0 
   not_due : NotDue file p k c → FactsFault k n file p c
   list : Due file p k → ListFault 5 n (body_at file p) c → FactsFault k n file p c
 
-pub data Fault (file : List ℕ) (rows i c : ℕ) : Type 0 where
-  task : i ≡ 0 → TaskFault file rows c → Fault file rows i c
-  job : (j : ℕ) → i ≡ suc j → j < m_of file → JobFault (n_of file) file (place file i) c → Fault file rows i c
-  start : i ≡ m_of file + 1 → FactsFault ST (n_of file) file (place file i) c → Fault file rows i c
-  goal : i ≡ m_of file + 2 → FactsFault GO (n_of file) file (place file i) c → Fault file rows i c
-  bytes_follow : i ≡ m_of file + 3 → place file i < length file → c ≡ 8 → Fault file rows i c
+pub data TaskFileFault (file : List ℕ) (rows i c : ℕ) : Type 0 where
+  task : i ≡ 0 → TaskFault file rows c → TaskFileFault file rows i c
+  job : (j : ℕ) → i ≡ suc j → j < m_of file → JobFault (n_of file) file (place file i) c → TaskFileFault file rows i c
+  start : i ≡ m_of file + 1 → FactsFault ST (n_of file) file (place file i) c → TaskFileFault file rows i c
+  goal : i ≡ m_of file + 2 → FactsFault GO (n_of file) file (place file i) c → TaskFileFault file rows i c
+  bytes_follow : i ≡ m_of file + 3 → place file i < length file → c ≡ 8 → TaskFileFault file rows i c
 
-pub record FirstFault (file : List ℕ) (rows c p : ℕ) : Type 0 where
+pub record FirstTaskFault (file : List ℕ) (rows c p : ℕ) : Type 0 where
   pub at : ℕ
-  pub fault : Fault file rows at c
+  pub fault : TaskFileFault file rows at c
   pub place_is : p ≡ place file at
-  pub none_before : (i : ℕ) → i < at → (d : ℕ) → ¬ Fault file rows i d
+  pub none_before : (i : ℕ) → i < at → (d : ℕ) → ¬ TaskFileFault file rows i d

@@ -7,16 +7,16 @@ use planning::refusal::{Cause, Refusal};
 
 /// How many facts and how many jobs a task has.
 #[derive(Clone, Copy)]
-pub struct Counts {
-    pub n: u8,
-    pub m: u8,
+pub(crate) struct Counts {
+    pub(crate) n: u8,
+    pub(crate) m: u8,
 }
 
 /// The numbers that the record at the front of a task file gives, where `rows` rows are supplied.
 ///
 /// Refused at byte 0 with 1 or 2 as every record is; with 3 if its length isn't 2; with 4 if `n` is 0 or above
 /// 128; with 9 if there are fewer rows than `m`.
-pub fn read_counts(file: &[u8], rows: usize) -> Result<Counts, Refusal>
+pub(crate) fn read_counts(file: &[u8], rows: usize) -> Result<Counts, Refusal>
     ensures { Counted file.now rows result }
 {
     let found = record_at(file, 0)?;

@@ -10,7 +10,7 @@ use strips::header::Header;
 /// The header of a task with these numbers, whose start record is due at byte `at`.
 ///
 /// Refused as the start or the goal record is; then with 8, at the first byte behind them, if there is one.
-pub fn header_at(file: &[u8], at: usize, counts: Counts) -> Result<Header, Refusal>
+pub(crate) fn header_at(file: &[u8], at: usize, counts: Counts) -> Result<Header, Refusal>
     requires { Limits counts.n }
     ensures { EndsRead counts.n counts.m file.now at result }
 {

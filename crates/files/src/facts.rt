@@ -2,7 +2,7 @@
 ghost use Rattle.std.specs.Prelude.{◌≤◌};
 ghost use Rattle.files.specs.Reading.{FactsRead};
 ghost use Rattle.files.specs.Records.{ST, GO};
-ghost use Rattle.files.specs.Sets.{Listed};
+ghost use Rattle.files.specs.Sets.{ListRead};
 
 use crate::lists::check_list_at;
 use crate::record::Record;
@@ -13,16 +13,16 @@ use sets::facts::FactSet;
 /// The facts of a strictly rising list, in a record at byte `at` of a task of `n` facts.
 ///
 /// Refused at `at`, at the first number that is at fault: with 5 if it is `n` or above, else with 6.
-pub fn fact_list(list: &[u8], n: u8, at: usize) -> Result<FactSet, Refusal>
+pub(crate) fn fact_list(list: &[u8], n: u8, at: usize) -> Result<FactSet, Refusal>
     requires { n ≤ 128 }
-    ensures { Listed n list.now at result }
+    ensures { ListRead n list.now at result }
 {
     check_list_at(list, n, Cause::NoSuchFact, at)?;
     Ok(FactSet::of(list))
 }
 
 /// The start state that the record at byte `at` gives, and the byte behind it.
-pub fn start_at(file: &[u8], at: usize, n: u8) -> Result<(FactSet, usize), Refusal>
+pub(crate) fn start_at(file: &[u8], at: usize, n: u8) -> Result<(FactSet, usize), Refusal>
     requires { n ≤ 128 }
     ensures { FactsRead ST n file.now at result }
 {
@@ -35,7 +35,7 @@ pub fn start_at(file: &[u8], at: usize, n: u8) -> Result<(FactSet, usize), Refus
 }
 
 /// The goal that the record at byte `at` gives, and the byte behind it.
-pub fn goal_at(file: &[u8], at: usize, n: u8) -> Result<(FactSet, usize), Refusal>
+pub(crate) fn goal_at(file: &[u8], at: usize, n: u8) -> Result<(FactSet, usize), Refusal>
     requires { n ≤ 128 }
     ensures { FactsRead GO n file.now at result }
 {

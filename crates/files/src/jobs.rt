@@ -10,7 +10,12 @@ use strips::row::Row;
 /// Reads a job record into each of the rows, the first at byte `first`, and gives the byte behind the last.
 ///
 /// Refused as the first of them that is at fault.
-pub fn read_jobs(file: &[u8], first: usize, n: u8, rows: &mut [Row]) -> Result<usize, Refusal>
+pub(crate) fn read_jobs(
+    file: &[u8],
+    first: usize,
+    n: u8,
+    rows: &mut [Row],
+) -> Result<usize, Refusal>
     requires few { n ≤ 128 }
     requires first { first ≡ place file.now 1 }
     requires within { first ≤ length file.now }

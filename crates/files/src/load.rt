@@ -1,5 +1,5 @@
 //! Loading a task file.
-ghost use Rattle.files.specs.Loading.{Loaded, Exact};
+ghost use Rattle.files.specs.Loading.{Loaded, ExactLoading};
 ghost use Rattle.files.specs.Reading.{Parsed};
 ghost use Rattle.std.specs.Prelude.{◌≡◌, length};
 
@@ -40,7 +40,7 @@ fn parse(file: &[u8], rows: usize, read: &mut [Row]) -> Result<Header, Refusal>
 /// bytes follow the goal record, at the first of them.
 pub fn load(file: &[u8], rows: &mut [Row]) -> Result<Header, Refusal>
     ensures loaded { Loaded file.now rows.old result rows.new }
-    ensures exact { Exact file.now rows.old result }
+    ensures exact { ExactLoading file.now rows.old result }
 {
     let mut read = [Row::default(); MOST_JOBS];
     let header = parse(file, rows.len(), &mut read)?;

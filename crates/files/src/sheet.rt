@@ -1,5 +1,5 @@
 //! Reading a sheet file into a book.
-ghost use Rattle.files.specs.SheetFiles.{RoundRead, Checked, Read, Exact};
+ghost use Rattle.files.specs.SheetFiles.{RoundRead, RoundsChecked, Read, ExactReading};
 ghost use Rattle.std.specs.Prelude.{Ok, IsOk, length};
 
 use crate::lists::check_list_at;
@@ -23,7 +23,7 @@ fn round_at(file: &[u8], at: usize) -> Result<(&[u8], usize), Refusal>
 
 /// Whether all rounds of the file can be added. Refused as reading it is.
 fn check_rounds(book: &Book, sheet: &[JobSet], file: &[u8]) -> Result<(), Refusal>
-    ensures { Checked book.now.m (length sheet.now) book.now.rounds file.now result }
+    ensures { RoundsChecked book.now.m (length sheet.now) book.now.rounds file.now result }
 {
     let mut rounds = book.rounds() as usize;
     if sheet.len() < rounds {
@@ -44,7 +44,7 @@ fn check_rounds(book: &Book, sheet: &[JobSet], file: &[u8]) -> Result<(), Refusa
 
 /// Adds all rounds of a file that was checked, and so never refuses.
 fn add_rounds(book: &mut Book, sheet: &mut [JobSet], file: &[u8]) -> Result<(), Refusal>
-    requires { Checked book.old.m (length sheet.old) book.old.rounds file.now (Ok tt) }
+    requires { RoundsChecked book.old.m (length sheet.old) book.old.rounds file.now (Ok tt) }
     ensures fine { IsOk result }
     ensures read { Read book.old sheet.old file.now result book.new sheet.new }
 {
@@ -69,7 +69,7 @@ fn add_rounds(book: &mut Book, sheet: &mut [JobSet], file: &[u8]) -> Result<(), 
 /// supplied, or 500, is in use. On a refusal book and sheet are as before.
 pub fn read_sheet(book: &mut Book, sheet: &mut [JobSet], file: &[u8]) -> Result<(), Refusal>
     ensures read { Read book.old sheet.old file.now result book.new sheet.new }
-    ensures exact { Exact book.old sheet.old file.now result }
+    ensures exact { ExactReading book.old sheet.old file.now result }
 {
     check_rounds(book, sheet, file)?;
     add_rounds(book, sheet, file)

@@ -1,5 +1,5 @@
 //! What is proved of files, whatever reads them.
-ghost use Rattle.files.specs.Loading.{OneTask, OneAnswer};
+ghost use Rattle.files.specs.Loading.{OneTask, OneLoading};
 ghost use Rattle.files.specs.SheetFiles.{OneList, OneReading};
 ghost use Rattle.files.specs.TaskFiles.{TasksWithFiles};
 
@@ -16,7 +16,7 @@ pub fn one_task()
 /// with headers of the same numbers of facts and of jobs, the same start and goal, or both refuse, with the same
 /// number and place; and they leave the same rows.
 pub fn one_answer_of_loading()
-    ensures { OneAnswer }
+    ensures { OneLoading }
 {}
 
 /// The theorem on which tasks have a file: those whose jobs' bodies fit a length byte. The bytes of a task within

@@ -25,7 +25,7 @@ use Rattle.planning.specs.declared.report.Distance.TheVariants.{Told, NoPlan, At
 use Rattle.planning.specs.declared.report.Report.{Report}
 use Rattle.planning.specs.Refusals.{told}
 use Rattle.planning.specs.Adding.{free}
-use Rattle.files.specs.SheetFiles.{sheet_bytes, RoundsFit, faulty, FirstFault as FirstSheetFault}
+use Rattle.files.specs.SheetFiles.{sheet_bytes, RoundsFit, faulty, FirstSheetFault}
 use Rattle.files.proofs.TaskLaws.{one_task, not_at_fault}
 use Rattle.files.proofs.SheetLaws.{one_list, refused_exactly}
 use Rattle.files.proofs.OneLoading.{one_task_fault}

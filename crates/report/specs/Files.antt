@@ -27,8 +27,8 @@ use Rattle.planning.specs.declared.report.Report.{Report}
 use Rattle.planning.specs.Refusals.{told}
 use Rattle.planning.specs.Lists.{clean}
 use Rattle.files.specs.TaskFiles.{TaskFile}
-use Rattle.files.specs.TaskFaults.{FirstFault as FirstTaskFault}
-use Rattle.files.specs.SheetFiles.{sheet_bytes, FirstFault as FirstSheetFault}
+use Rattle.files.specs.TaskFaults.{FirstTaskFault}
+use Rattle.files.specs.SheetFiles.{sheet_bytes, FirstSheetFault}
 use Rattle.report.specs.declared.lines.Refused.{Refused}
 use Rattle.report.specs.declared.lines.Refused.TheVariants.{Task, Plan}
 use Rattle.report.specs.Answers.{Answer}

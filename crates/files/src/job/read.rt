@@ -9,7 +9,7 @@ use planning::refusal::Refusal;
 use strips::row::Row;
 
 /// The row that the job record at byte `at` gives, in a task of `n` facts, and the byte behind it.
-pub fn job_at(file: &[u8], at: usize, n: u8) -> Result<(Row, usize), Refusal>
+pub(crate) fn job_at(file: &[u8], at: usize, n: u8) -> Result<(Row, usize), Refusal>
     requires { n ≤ 128 }
     ensures { JobRead n file.now at result }
 {

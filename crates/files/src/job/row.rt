@@ -11,7 +11,7 @@ use strips::row::Row;
 ///
 /// Refused at `at`: with 3 for a wrong length; then list by list and number by number with 5 or 6; then with 7
 /// if a fact is both added and deleted.
-pub fn row_of(body: &[u8], at: usize, n: u8) -> Result<Row, Refusal>
+pub(crate) fn row_of(body: &[u8], at: usize, n: u8) -> Result<Row, Refusal>
     requires { n ≤ 128 }
     ensures { RowRead n body.now at result }
 {

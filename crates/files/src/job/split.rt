@@ -11,7 +11,7 @@ impl<'a> JobBody<'a> {
     /// The zone and the three lists of the body of a record at byte `at`.
     ///
     /// Refused with 3, at `at`, if the length isn't 4 and the three list lengths.
-    pub fn split(body: &'a [u8], at: usize) -> Result<JobBody<'a>, Refusal>
+    pub(crate) fn split(body: &'a [u8], at: usize) -> Result<JobBody<'a>, Refusal>
         ensures { Split body.now at result }
     {
         if body.len() < FRONT {

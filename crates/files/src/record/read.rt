@@ -7,7 +7,7 @@ use planning::refusal::{Cause, Refusal};
 /// The bytes of a record in front of its body: two of its mark, and its length.
 const FRONT: usize = 3;
 
-/// The record of the file that begins at byte `at`.
+/// The record of the file that begins at byte `at`, with that byte and the byte behind its body.
 ///
 /// Refused at `at`: with 1 if fewer than three bytes are left, or the body passes the end of the file; else
 /// with 2 if its mark is none of the five.
