@@ -64,7 +64,8 @@ fn judge_plan<S: Task>(
     answer(task, book, table, sheet)
 }
 
-/// Loads the task file, reads the sheet file, grows the table until a distance or none is told, and judges.
+/// Loads the task file, reads the sheet file, grows the table until a distance or none is told, and judges, all under
+/// apart. What the report says is true of the task and of the rounds that the two files have.
 ///
 /// The task file is refused before the sheet file is looked at. Each is refused with 1, place 60,000, if it has more
 /// than 60,000 bytes, before anything of it is read; else as `load` refuses it where 255 rows are supplied, or as
