@@ -1,12 +1,13 @@
 -- Small counts, by their meanings.
 --
+--   powers xs               the number whose binary digits xs are set, where all are different
 --   facts xs                the set of these facts, all different and below 64
 --   act needs adds deletes  the job with these facts and no zone
---   counting n s g jobs       the task of n facts with start s, goal g and these jobs, numbered from 0
---   lift                    a lift fetches a pallet from another floor
+--   counting n s g jobs     the task of n facts with start s, goal g and these jobs, numbered from 0
+--   lift_jobs, lift         a lift fetches a pallet from another floor: its jobs, and the task
 --   lift_without_3          the same, with job 3 withheld
 --   lift_from_1_4           the same, started at facts 1 and 4
---   twin                    two jobs that have nothing to do with each other
+--   twin_jobs, twin         two jobs that have nothing to do with each other, and the task of them
 --   sheet js                the rounds of these lists of job numbers
 use Rattle.std.specs.Prelude.{ℕ, ◌+◌, ◌^◌, List, [], ◌∷◌, map, length}
 use Rattle.std.specs.List.{slice_get}

@@ -4,6 +4,7 @@
 --   SettledAfter T R g d    the same, and the book is settled by then
 --   Entry T R g p q e       the book is settled after g growings, and e is the entry of {p, q}
 --   Answer T R g rs rep     it is settled, and rep is what judging answers on the rounds rs
+--   report r v d e          the report of r rounds with this verdict, distance and excess
 --   WorkedCases             the cases
 use Rattle.std.specs.Prelude.{◌≡◌, ℕ, ◌<◌, min, List, [], ◌∷◌, length, ℤ, pos, negsuc, Some, None, Option}
 use Rattle.strips.specs.Rounds.{Round}
