@@ -9,9 +9,7 @@ use crate::jobs::read_jobs;
 use planning::refusal::Refusal;
 use strips::header::Header;
 use strips::row::Row;
-
-/// The most jobs that a task has.
-const MOST_JOBS: usize = 255;
+use strips::task::MOST_JOBS;
 
 /// The byte of the first job record, behind the five bytes of a task record.
 const FIRST_JOB: usize = 5;

@@ -5,7 +5,7 @@ use crate::pair_set::PairSet;
 use sets::facts::FactSet;
 use std::array;
 use strips::job::Job;
-use strips::task::Task;
+use strips::task::{MOST_JOBS, Task};
 
 /// A ready job, with the facts that are reached together with each of its needs.
 #[derive(Clone, Copy)]
@@ -13,9 +13,6 @@ pub(crate) struct Ready {
     pub(crate) job: Job,
     pub(crate) common: FactSet,
 }
-
-/// The most jobs that a task has.
-const MOST_JOBS: usize = 255;
 
 /// The job of a number as a ready one, if it is present and its needs are reached.
 fn ready_job<S: Task>(task: &S, reached: &PairSet, j: u8) -> Option<Ready>

@@ -6,6 +6,9 @@ ghost use Rattle.std.specs.Prelude.{◌≡◌, Some, MatchResult};
 use std::error::Error;
 use std::fmt;
 
+/// The pairs of 128 facts, the most that a task has.
+pub const MOST_PAIRS: usize = 8_256;
+
 /// A refusal: fewer entries were supplied than the pairs of that many facts have.
 #[derive(Clone, Copy, Debug, PartialEq, Eq)]
 pub struct ShortTable {

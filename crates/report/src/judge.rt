@@ -9,23 +9,16 @@ use files::sheet::read_sheet;
 use planning::book::Book;
 use planning::refusal::{Cause, Refusal};
 use planning::report::Report;
+use planning::sheet::MOST_ROUNDS;
+use reach::table::MOST_PAIRS;
 use sets::jobs::JobSet;
 use strips::header::Header;
 use strips::loaded::Loaded;
 use strips::row::Row;
-use strips::task::Task;
+use strips::task::{MOST_JOBS, Task};
 
 /// The most bytes of a file.
 const MOST_BYTES: usize = 60_000;
-
-/// The most jobs of a task.
-const MOST_JOBS: usize = 255;
-
-/// The most rounds of a sheet.
-const MOST_ROUNDS: usize = 500;
-
-/// The pairs of 128 facts, the most that a task has.
-const MOST_PAIRS: usize = 8_256;
 
 /// Refuses a file of more than 60,000 bytes with 1, place 60,000.
 fn check_size(file: &[u8]) -> Result<(), Refusal>

@@ -5,6 +5,9 @@ ghost use Rattle.std.specs.Prelude.{◌≡◌};
 use crate::job::Job;
 use sets::facts::FactSet;
 
+/// The most job numbers of a task.
+pub const MOST_JOBS: usize = 255;
+
 /// A task, by five questions. Their answers are its meaning, and asking alters nothing.
 ///
 /// Every implementation shows of its answers that `n` is from 1 to 128 and `m` from 0 to 255, that
