@@ -47,7 +47,7 @@ module _ (T : Meaning) (R : Says) (ok : Admitted T) (law : Lawful R) (L : ℕ) (
           (λ s. elim inv.settled [ inl (_, lt) ↦ lt | inr (n, _) ↦ absurd (both_ways _ n s) ]),
           (λ lt. elim inv.settled [ inl (y, _) ↦ y | inr (_, le) ↦ absurd (omega arith) ]),
         );
-        entries = λ p q lp lq. rw inv.layer at (inv.cells p q lp lq);
+        entries = λ p q lp lq. rw inv.layer at (inv.entries p q lp lq);
         places = inv.all_places;
         rounds = sym (length_is inv);
         sheet = inv.sheet;

@@ -8,6 +8,7 @@
 --                      each may have been picked after the answers to those before it
 --   Story T R          an accepted opening, and a list of calls after it
 --   growings cs        how many of the calls are growings, refused ones too
+--   without_last rs    the rounds rs but the last one, if there is one
 --   sheet_of m k cs    the rounds that the list of calls gives, for m jobs and k sheet places: an adding
 --                      of a list that is in order appends its set of jobs if there is room, a dropping takes
 --                      off the last round if there is one, other calls keep it

@@ -99,7 +99,7 @@ module _ (T : Meaning) (R : Says) (ok : Admitted T) (law : Lawful R) (t : ℕ) (
           lt,
           record {
             some = (p, q, fresh_new p q f);
-            cells = λ p q lp lq. elim (decide true wrote p q lp lq) [
+            entries = λ p q lp lq. elim (decide true wrote p q lp lq) [
               | inl new ↦ inl (new, written true wrote p q new)
               | inr old ↦ inr (old, others true wrote p q old)
             ];

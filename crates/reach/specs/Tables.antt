@@ -1,5 +1,6 @@
 -- The table of pairs: the entry of a pair holds the first layer that has it, or 65,535 while none has.
 --
+--   Table                 the entries
 --   entry tb p q          the entry of the pair {p, q}
 --   Room n tb             the table has an entry for each pair of n facts
 --   Short n tb e          it has too few, and e says how many, and for how many facts
@@ -7,11 +8,12 @@
 --   Reads n t tb          the table of n facts read as layer t: an entry up to t is reached, a larger one
 --                         isn't
 --   KeptBehind n tb tb'   what stands behind the entries of n facts is as it was
---   Opening T tb r tb'    what opening answers and writes: 0 for the pairs within the start, 65,535 for
---                         the others
+--   LayerZero T tb tb'    layer 0 is written: 0 for the pairs within the start, 65,535 for the others
+--   Opening T tb r tb'    what opening answers and writes: layer 0, or that the table is short
 --   New T R t tb p q      {p, q} isn't reached in the table read as layer t, and enters behind it
---   Growing T R t tb r tb'   what growing answers and writes: t + 1 to the entry of each new pair; nothing
---                         where there is none, or t is n(n+1)/2 or more
+--   NextLayer T R t tb tb'   there is a new pair, and t + 1 is written to the entry of each and to no other
+--   Growing T R t tb r tb'   what growing answers and writes: the next layer; nothing where no pair is new, or t
+--                         is n(n+1)/2 or more
 --   GoalRead T t tb       every pair of the goal is reached in the table read as layer t
 --   LargestOf Is s d      d is the largest value of the facts of s, 0 for an empty s; Is f x says that x is
 --                         the value of fact f
@@ -63,7 +65,7 @@ New T R t tb p q = (p < T.n) × (q < T.n) × (t < entry tb p q) × Enters T R (R
 
 pub record NextLayer (T : Meaning) (R : Says) (t : ℕ) (tb tb' : Table) : Type 0 where
   pub some : (p : ℕ) × (q : ℕ) × New T R t tb p q
-  pub cells : (p q : ℕ) → p < T.n → q < T.n
+  pub entries : (p q : ℕ) → p < T.n → q < T.n
       → (New T R t tb p q × (entry tb' p q ≡ t + 1)) ⊎ ((¬ New T R t tb p q) × (entry tb' p q ≡ entry tb p q))
   pub kept : KeptBehind T.n tb tb'
 

@@ -1,9 +1,10 @@
--- Why each implementation of a task is admitted.
-use Rattle.std.specs.Prelude.{◌≡◌, ℕ, Bool, true, false, cond, not, ◌&&◌, List, take, Some, None, Option, ◌≢◌, nat_lt, refl}
-use Rattle.std.proofs.Common.{ap, subst, inl, inr, arith, length-take}
+-- Why each implementation of a task is admitted. These are lemmas, for the ghost members that the tasks owe.
+use Rattle.std.specs.Prelude.{◌≡◌, ℕ, ◌≤◌, Bool, true, false, cond, not, ◌&&◌, List, length, take, Some, None, Option, ◌≢◌, nat_lt, refl}
+use Rattle.std.proofs.Common.{sym, ap, subst, inl, inr, length-take}
+use Rattle.std.proofs.Math.Nat.{le_trans, min-le_left}
 use Rattle.std.specs.List.{slice_get}
 use Rattle.std.specs.Option.{option_map}
-use Rattle.std.proofs.lemmas.Option.{slice_get_past}
+use Rattle.std.proofs.lemmas.Option.{slice_get_past, none-some, same_Some}
 use Rattle.std.proofs.lemmas.Bool.{and_parts, ltb-true, both_ways, cases_Bool, not-true}
 use Rattle.sets.specs.declared.facts.FactSet.{FactSet}
 use Rattle.sets.specs.declared.jobs.JobSet.{JobSet}
@@ -36,18 +37,18 @@ fair_row n r = record {
         both_ways (has r.adds f) (not-true (has r.adds f) (and_parts (has r.deletes f) (not (has r.adds f)) deleted).1) added
 
 fair_job : (n : ℕ) (o : Option Row) (a : Job) → option_map (job_of n) o ≡ Some a → Fair n a
-fair_job n (Some r) a e = let same : job_of n r ≡ a = cc in subst (λ (x : Job). Fair n x) same (fair_row n r)
-fair_job n None a e = let z : ◌≡◌ {A = ℕ} 0 1 = cc in absurd (omega arith)
+fair_job n (Some r) a e = subst (λ (x : Job). Fair n x) (same_Some (job_of n r) a e) (fair_row n r)
+fair_job n None a e = absurd (none-some a e)
 
 pub loaded_admitted : (h : Header) (rows : List Row) → Admitted (loaded h rows)
 loaded_admitted h rows = record {
   some_fact = h.limits.0;
   few_facts = h.limits.1;
-  few_jobs = omega (arith, h.limits.2);
+  few_jobs = le_trans (min-le_left h.m (length rows)) h.limits.2;
   start = h.starts;
   goal = h.ends;
   fair = λ j a e. fair_job h.n (slice_get (take h.m rows) j) a e;
-  absent = λ j le. ap (option_map (job_of h.n)) (slice_get_past (take h.m rows) j (simp length-take le));
+  absent = λ j le. ap (option_map (job_of h.n)) (slice_get_past (take h.m rows) j (subst (λ (k : ℕ). k ≤ j) (sym (length-take h.m rows)) le));
 }
 
 pub withheld_admitted : (marks : JobSet) (T : Meaning) → Admitted T → Admitted (withheld marks T)
@@ -62,7 +63,7 @@ withheld_admitted marks T ok = record {
 }
   where
     there : (b : Bool) (o : Option Job) (a : Job) → cond b None o ≡ Some a → o ≡ Some a
-    there true o a e = let z : ◌≡◌ {A = ℕ} 0 1 = cc in absurd (omega arith)
+    there true o a e = absurd (none-some a e)
     there false o a e = e
 
     gone : (b : Bool) (o : Option Job) → o ≡ None → cond b None o ≡ None

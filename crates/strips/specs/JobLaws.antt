@@ -1,4 +1,4 @@
--- Interference as a test, and why the three sharing rules are lawful.
+-- Interference as a test, and why the three sharing rules are lawful. These are lemmas, for the ghost members that the rules owe.
 use Rattle.std.specs.Prelude.{◌≡◌, ℕ, Bool, true, false, not, ◌&&◌, ◌||◌, ◌⊎◌, Decides, ◌==◌, refl}
 use Rattle.std.proofs.Common.{sym, ap, ap₂, ◌∙◌, inl, inr}
 use Rattle.std.proofs.Math.Bool.{or_comm}

@@ -5,10 +5,12 @@
 --   round_of m p       the round at the sheet place p of a task of m jobs: numbers from m up don't count
 --   Allowed T R s r    round r is allowed in state s: all its jobs are present, the rule says yes for
 --                      every two different ones, and the state holds all their needs
+--   in_part part o f   the job o, if it is present, has fact f in that part
 --   some_job T part r  the facts that some present job of round r has in that part
 --   result T s r       the state after round r: with all adds, then without all deletes
---   Plan T R rs        the rounds rs, a list of any length, are each allowed in turn from the start,
+--   PlanFrom T R s rs  the rounds rs, a list of any length, are each allowed in turn from the state s,
 --                      and the last state holds the goal
+--   Plan T R rs        so it is from the start
 use Rattle.std.specs.Prelude.{◌≡◌, ℕ, Bool, true, false, not, ◌&&◌, ◌||◌, ◌≢◌, List, [], ◌∷◌, Some, None, Option, nat_lt}
 use Rattle.sets.specs.declared.facts.FactSet.{FactSet}
 use Rattle.sets.specs.declared.jobs.JobSet.{JobSet}
@@ -36,7 +38,6 @@ pub record Allowed (T : Meaning) (R : Says) (s : State) (r : Round) : Type 0 whe
   pub shared : (j k : ℕ) (a b : Job) → r j ≡ true → r k ≡ true → j ≢ k → T.job j ≡ Some a → T.job k ≡ Some b → R a b ≡ true
   pub held : (j : ℕ) (a : Job) → r j ≡ true → T.job j ≡ Some a → Holds s a.needs
 
--- a present job has the fact in that part
 abbrev pub in_part : (Job → FactSet) → Option Job → ℕ → Bool
 in_part part (Some a) f = has (part a) f
 in_part part None f = false

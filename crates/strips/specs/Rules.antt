@@ -5,7 +5,8 @@
 --                  said only of jobs that don't interfere
 --   apart          yes exactly if they don't interfere
 --   single_file    always no
---   zoned          yes exactly if apart says so and the zones agree: they differ or one is 0, no zone
+--   ZonesAgree     the zones differ or one is 0, no zone; zones_agree is the same as a test
+--   zoned          yes exactly if apart says so and the zones agree
 use Rattle.std.specs.Prelude.{◌≡◌, Bool, true, false, not, ◌&&◌, ◌||◌, ◌≢◌, ◌⊎◌, ◌==◌}
 use Rattle.strips.specs.declared.job.Job.{Job}
 use Rattle.strips.specs.Jobs.{Interferes, interferes}

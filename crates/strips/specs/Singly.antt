@@ -3,6 +3,7 @@
 --   done a s           the state s after job a alone: its deletes go first, then its adds come
 --   Singly T s js e    the jobs js are done one by one from the state s, each permitted when its turn
 --                      comes (present, and the state holds its needs), and e is the state at the end
+--   Among j js         the number j is one of js
 --   Once js            no number comes twice
 --   OrderOf r js       js has each job of round r once, in some order
 --   FreeOrder rs js    js goes round by round and takes each job of a round once, in any order inside
@@ -20,7 +21,6 @@ abbrev pub Singly : Meaning → State → List ℕ → State → Type 0
 Singly T s [] e = s ≡ e
 Singly T s (j ∷ js) e = (a : Job) × (T.job j ≡ Some a) × Holds s a.needs × Singly T (done a s) js e
 
--- j is among the numbers
 abbrev pub Among : ℕ → List ℕ → Type 0
 Among j [] = ⊥
 Among j (k ∷ ks) = (j ≡ k) ⊎ Among j ks

@@ -2,11 +2,13 @@
 --
 --   Absent T r j          job j of round r is absent
 --   Partner T R r j a k   job k of round r is above j, and the rule doesn't let job a share with it
+--   Joined T r To j k     job j of round r is present, and To joins it to k
 --   Clashing T R r j k    jobs j and k of round r, the first lower, may not share it
 --   Lacks s x f           fact f of the set x is not in the state s
 --   Lacking T s r j f     job j of round r needs fact f, which the state s lacks
 --   Fault T R s i r v     v is the fault of round r, number i, in the state s: the checks in their order
 --   Ended T s v           v is what is left to say in the last state s
+--   JudgedFrom T R s i rs v    v is the first fault of the rounds rs, the first of them number i, from the state s on
 --   Judged T R rs v       v is the first fault of the rounds rs, or sound
 use Rattle.std.specs.Prelude.{◌≡◌, ℕ, ◌+◌, ◌<◌, true, false, ◌⊎◌, List, [], ◌∷◌, Some, None, codes}
 use Rattle.sets.specs.declared.facts.FactSet.{FactSet}
@@ -25,7 +27,6 @@ Absent T r j = (r j ≡ true) × (T.job j ≡ None)
 abbrev pub Partner : Meaning → Says → Round → ℕ → Job → ℕ → Type 0
 Partner T R r j a k = (j < k) × (r k ≡ true) × ((b : Job) × (T.job k ≡ Some b) × (R a b ≡ false))
 
--- a present job of the round, numbered j, is joined to k
 abbrev pub Joined : Meaning → Round → (ℕ → Job → ℕ → Type 0) → ℕ → ℕ → Type 0
 Joined T r To j k = (r j ≡ true) × ((a : Job) × (T.job j ≡ Some a) × To j a k)
 

@@ -2,6 +2,7 @@
 --
 --   told v           the word of verdict v, and its numbers in their order
 --   IsSound v        v is the verdict sound
+--   spaced ns        the numbers ns in decimal, each behind a blank
 --   text v           how v reads: its word, then each number behind a blank, in decimal
 --   fault_round v    the round at fault, where a round is
 use Rattle.std.specs.Prelude.{◌≡◌, ℕ, List, [], ◌∷◌, ◌++◌, Some, None, codes, decimal, Option}
