@@ -11,7 +11,7 @@ use verdicts::sheet::ShortSheet;
 /// Why a call is refused, by its number.
 #[derive(Clone, Copy, Debug, PartialEq, Eq)]
 pub enum Cause {
-    /// A file ends before a record that is due does.
+    /// A file ends before a record that is due does, or is too large to be looked at.
     Truncated = 1,
     /// A record has another mark than the one that is due.
     OtherMark = 2,
