@@ -1,6 +1,6 @@
 mod GrowingLaws
-mod AnswerLaws
-mod LoadingLaws
+pub mod AnswerLaws
+pub mod LoadingLaws
 mod PlanLaws
 mod FilesLaws
 mod OneText

@@ -9,7 +9,7 @@ use Rattle.strips.specs.Tasks.{Meaning}
 use Rattle.strips.specs.Loading.{job_of, loaded}
 use Rattle.planning.specs.declared.refusal.Refusal.{Refusal}
 use Rattle.files.specs.Loading.{Loaded}
-use Rattle.report.specs.Files.{TaskLoaded}
+use Rattle.report.specs.Files.{BytesOf, TaskLoaded}
 
 -- the task of header h whose jobs are read from these rows
 abbrev over : Header → ℕ → List Row → Meaning
@@ -24,8 +24,10 @@ same_task h new rest len =
     let rows : take h.m (new ++ rest) ≡ take h.m new = take-append-le h.m new rest few in
     ap₂ (over h) m rows
 
+pub bytes_loaded : (tf : List ℕ) (rows : List Row) (h : Header) (rows' : List Row) → Loaded tf rows (Ok h) rows' → BytesOf tf (loaded h rows')
+bytes_loaded tf rows h rows' (new, file, _, is) = (h, new, file, rw is (same_task h new _ file.jobs))
+
 pub task_loaded : (tf : List ℕ) (rows : List Row) (r : Result Header Refusal) (rows' : List Row) → length tf ≤ 60000 → length rows ≡ 255
     → Loaded tf rows r rows' → TaskLoaded tf r rows'
-task_loaded tf rows (Ok h) rows' small len (new, file, _, is) =
-    (small, (h, new, file, rw is (same_task h new _ file.jobs)))
+task_loaded tf rows (Ok h) rows' small len loading = (small, bytes_loaded tf rows h rows' loading)
 task_loaded tf rows (Err e) rows' small len (first, _) = inr (small, rw len at first)

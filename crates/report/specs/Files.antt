@@ -2,7 +2,8 @@
 --
 --   Oversized f e          the file f has more than 60,000 bytes, which is refusal 1 at byte 60,000
 --   SizeChecked f r        what the check of a file's size answers
---   TaskOf tf T            the task file is the bytes of the task T
+--   BytesOf tf T           the task file is the bytes of the task T, however many there are
+--   TaskOf tf T            it is, and has at most 60,000 bytes
 --   TaskRefused tf e       the task file is refused with e: it is too large, or e is the refusal of its first record
 --                          at fault, where 255 rows are supplied
 --   TaskLoaded tf r rows   what loading the task file answers, where the 255 rows become rows
@@ -40,9 +41,11 @@ abbrev pub SizeChecked : List ℕ → Result Unit Refusal → Type 0
 SizeChecked f (Ok _) = length f ≤ 60000
 SizeChecked f (Err e) = Oversized f e
 
+abbrev pub BytesOf : List ℕ → Meaning → Type 0
+BytesOf tf T = (h : Header) × (rows : List Row) × TaskFile h rows tf × (T ≡ loaded h rows)
+
 abbrev pub TaskOf : List ℕ → Meaning → Type 0
-TaskOf tf T =
-    (length tf ≤ 60000) × ((h : Header) × (rows : List Row) × TaskFile h rows tf × (T ≡ loaded h rows))
+TaskOf tf T = (length tf ≤ 60000) × BytesOf tf T
 
 abbrev pub TaskRefused : List ℕ → Refusal → Type 0
 TaskRefused tf e = Oversized tf e ⊎ ((length tf ≤ 60000) × FirstTaskFault tf 255 (told e).0 (told e).1)
