@@ -1,0 +1,2 @@
+mod GrowthLaws
+mod TableLaws

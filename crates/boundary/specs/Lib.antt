@@ -1,0 +1,4 @@
+pub mod Texts
+pub mod Piles
+pub mod Growths
+pub mod Tables
