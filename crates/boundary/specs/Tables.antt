@@ -13,7 +13,7 @@ use Rattle.reach.specs.Tables.{Table}
 use Rattle.planning.specs.declared.book.Book.{Book}
 use Rattle.planning.specs.declared.refusal.Refusal.{Refusal}
 use Rattle.planning.specs.Refusals.{told}
-use Rattle.files.specs.TaskFaults.{FirstFault}
+use Rattle.files.specs.TaskFaults.{FirstTaskFault}
 use Rattle.report.specs.Files.{BytesOf}
 use Rattle.boundary.specs.declared.pile.Layers.{Layers}
 use Rattle.boundary.specs.declared.sharing.Sharing.{Sharing}
@@ -23,7 +23,7 @@ use Rattle.boundary.specs.Growths.{GrownBy, TimesGrown}
 
 abbrev pub FileGrown : List ℕ → Layers → Sharing → ℕ → Table → Result Book Refusal → Table → Type 0
 FileGrown tf l s k tb r tb' =
-    (IsErrAnd r (λ e. FirstFault tf 255 (told e).0 (told e).1) × (tb' ≡ tb))
+    (IsErrAnd r (λ e. FirstTaskFault tf 255 (told e).0 (told e).1) × (tb' ≡ tb))
     ⊎ ((below : Meaning) × BytesOf tf below × TimesGrown (layered l below) (says_of s) k tb r tb')
 
 abbrev pub TellsOf : Result Book Refusal → Grown → Type 0
@@ -34,7 +34,7 @@ abbrev pub Still : Grown → Type 0
 Still g = (g.settled ≡ false) × (g.layer ≡ 0)
 
 pub data TableWritten (tf : List ℕ) (pile : ℕ) (ws fs : List ℕ) (rule k : ℕ) (tb : Table) (g : Grown) (tb' : Table) : Type 0 where
-  refused : FirstFault tf 255 g.number g.place → Still g → tb' ≡ tb → TableWritten tf pile ws fs rule k tb g tb'
+  refused : FirstTaskFault tf 255 g.number g.place → Still g → tb' ≡ tb → TableWritten tf pile ws fs rule k tb g tb'
   short : (T : Meaning) → TaskUnder tf pile ws fs T → length tb < pair_count T.n
       → g.number ≡ 9 → g.place ≡ 0 → Still g → tb' ≡ tb → TableWritten tf pile ws fs rule k tb g tb'
   grown : (T : Meaning) → TaskUnder tf pile ws fs T → g.number ≡ 0 → g.place ≡ 0

@@ -8,9 +8,7 @@ use planning::book::Book;
 use planning::refusal::Refusal;
 use strips::loaded::Loaded;
 use strips::row::Row;
-
-/// The most jobs of a task.
-const MOST_JOBS: usize = 255;
+use strips::task::MOST_JOBS;
 
 /// Loads the task file, and grows the table of its task under the layers and the rule, as `grow_times` does.
 ///
