@@ -1,11 +1,7 @@
 -- Ready jobs, and the facts that may hold beside their adds.
-use Rattle.std.proofs.Common.{◌≡◌, ℕ, ◌+◌, ◌<◌, ◌≤◌, zero, suc, Bool, true, false, ◌⊎◌, List, get_or, take, Some, None, Decides, Option, refl, subst, inl, inr, arith}
-use Rattle.std.proofs.lemmas.List.{length-take, get_or-take}
-use Rattle.std.proofs.lemmas.Bool.{false≢true, cases_eq}
-use Rattle.std.specs.Array.{IsFromFnResult, IsFromFnResultFrom}
+use Rattle.std.proofs.Common.{◌≡◌, ℕ, ◌<◌, Bool, true, false, ◌⊎◌, Some, Decides, refl, inl, inr}
+use Rattle.std.proofs.lemmas.Bool.{false≢true}
 use Rattle.std.specs.Bool.{then_some}
-use Rattle.std.specs.Fn.{Called}
-use denote.Param.Members.{Mut}
 use Rattle.sets.specs.declared.facts.FactSet.{FactSet}
 use Rattle.sets.specs.Facts.{has}
 use Rattle.sets.proofs.FactLaws.{has_below}
@@ -13,24 +9,8 @@ use Rattle.strips.specs.declared.job.Job.{Job}
 use Rattle.strips.specs.Tasks.{Meaning}
 use Rattle.layers.specs.Layers.{Reached}
 use Rattle.reach.specs.declared.pair_set.PairSet.{PairSet}
-use Rattle.reach.specs.declared.ready.Ready.{Ready}
 use Rattle.reach.specs.PairSets.{paired}
-use Rattle.reach.specs.Makings.{In, Common, NeedsReached, ReadyAt, ReadyJobs}
-
--- an array made by the calls of a closure that each call leaves as it was: P holds of each number and its element
-module _ {F : Type 0} {B : Type 0} {g : Mut F (ℕ × Unit {0}) B} {f : F} (ys : List B) (P : ℕ → B → Type 0)
-    (law : (i : ℕ) (y : B) (q : F) → Called g f (i, tt) y q → (q ≡ f) × P i y) (d : B) where
-  from_on : (i n : ℕ) → IsFromFnResultFrom g f ys i n → (j : ℕ) → i ≤ j → j < i + n → P j (get_or ys j d)
-  from_on i zero made j le lt = absurd (omega arith)
-  from_on i (suc n) (q, y, is, called, made) j le lt =
-      let (same, here) = law i y q called in
-      elim (cases_eq i j) [
-        | inl e ↦ subst (λ (k : ℕ). P k (get_or ys k d)) e (rw (is.1 d) here)
-        | inr ne ↦ from_on (i + 1) n (subst (λ (h : F). IsFromFnResultFrom g h ys (i + 1) n) same made) j (omega arith) (omega arith)
-      ]
-
-  pub each_made : {n : ℕ} → IsFromFnResult g f ys n → (j : ℕ) → j < n → P j (get_or ys j d)
-  each_made {n} made j lt = from_on 0 n made.each j (omega arith) (omega arith)
+use Rattle.reach.specs.Makings.{In, Common, NeedsReached, ReadyAt}
 
 -- the needs of a job are reached exactly if they are among the facts common to them
 module _ (s : PairSet) (a : Job) (c : FactSet) (law : Common s a.needs c) where
@@ -56,12 +36,3 @@ module _ (s : PairSet) (a : Job) (c : FactSet) (law : Common s a.needs c) where
 
     pub joint_within : ((f : ℕ) → X f → f < 128) → Reached (In s) (λ f. (has a.needs f ≡ true) ⊎ X f) → (f : ℕ) → X f → has c f ≡ true
     joint_within low joint f x = (law f).1 (low f x, λ p np. joint p f (inl np) (inr x))
-
--- the first places of ready jobs, as many as the task has numbers
-pub ready_first : (T : Meaning) (s : PairSet) (rs : List (Option Ready)) (n : ℕ) → T.m ≤ n → ReadyJobs T s rs → ReadyJobs T s (take n rs)
-ready_first T s rs n le ready =
-    let first = length-take n rs in
-    let whole = ready.enough in record {
-      enough = omega arith;
-      each = λ j lt. rw (get_or-take n rs j None (omega arith)) (ready.each j (omega arith));
-    }

@@ -7,7 +7,7 @@ use crate::ready::ready_jobs;
 use crate::table::{ShortTable, pair_count};
 use crate::write::write_new;
 use strips::rule::Rule;
-use strips::task::Task;
+use strips::task::{MOST_JOBS, Task};
 
 // Task and rule are handed over side by side: opening and reading the goal take no rule.
 /// Grows the table of the task by a layer under the rule, and says whether a pair is new.
@@ -30,8 +30,10 @@ pub fn grow_table<S: Task, R: Rule>(
         return Ok(false);
     }
     let reached = reading.reached();
-    let ready = ready_jobs(task, &reached);
-    // The first m places: the others are empty, and a task of few jobs would pay for looking at them.
-    let made = pairs_made(rule, &reached, &ready[..task.m() as usize]);
+    // An array and no `Vec`: growing allocates nothing.
+    let mut ready = [None; MOST_JOBS];
+    let ready = &mut ready[..task.m() as usize];
+    ready_jobs(task, &reached, ready);
+    let made = pairs_made(rule, &reached, ready);
     Ok(write_new(table, n, &made, &reached, t + 1))
 }

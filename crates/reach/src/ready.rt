@@ -1,11 +1,11 @@
 //! The jobs that are ready at a layer: present, and with their needs reached.
 ghost use Rattle.reach.specs.Makings.{ReadyAt, ReadyJobs};
+ghost use Rattle.std.specs.Prelude.{◌≡◌, length};
 
 use crate::pair_set::PairSet;
 use sets::facts::FactSet;
-use std::array;
 use strips::job::Job;
-use strips::task::{MOST_JOBS, Task};
+use strips::task::Task;
 
 /// A ready job, with the facts that are reached together with each of its needs.
 #[derive(Clone, Copy)]
@@ -23,10 +23,12 @@ fn ready_job<S: Task>(task: &S, reached: &PairSet, j: u8) -> Option<Ready>
     job.needs.is_subset(common).then_some(Ready { job, common })
 }
 
-// An array of the most jobs that a task has, and no `Vec` of the ready ones: growing allocates nothing.
-/// The ready jobs, each at its number.
-pub(crate) fn ready_jobs<S: Task>(task: &S, reached: &PairSet) -> [Option<Ready>; MOST_JOBS]
-    ensures { ReadyJobs (S.Task.meaning task.now) reached.now result }
+/// Writes the ready jobs, each to the place of its number, and nothing to the places of the others.
+pub(crate) fn ready_jobs<S: Task>(task: &S, reached: &PairSet, ready: &mut [Option<Ready>])
+    requires { length ready.old ≡ (S.Task.meaning task.now).m }
+    ensures { ReadyJobs (S.Task.meaning task.now) reached.now ready.new }
 {
-    array::from_fn(|j| ready_job(task, reached, j as u8))
+    for (j, place) in ready.iter_mut().enumerate() {
+        *place = ready_job(task, reached, j as u8);
+    }
 }

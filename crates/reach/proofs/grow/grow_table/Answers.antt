@@ -3,7 +3,6 @@ use Rattle.layers.proofs.LayerLaws.{enters_below}
 use Rattle.layers.proofs.PairLaws.{pair_count_few}
 use Rattle.reach.specs.Makings.{In}
 use Rattle.reach.proofs.MadeLaws.{enters_if_made}
-use Rattle.reach.proofs.MakingLaws.{ready_first}
 use Rattle.reach.proofs.GrowLaws.{grown}
 use Rattle.reach.proofs.grow.grow_table.Goals as goal
 
@@ -20,7 +19,7 @@ write_new-requires-clause-facts g c p q there =
     let s = c.reached-reached.result in
     let is = c.in_ok-reading.ensures.facts in
     let makes =
-    c.pairs_made-made.ensures T ok (ready_first T s c.ready_jobs-ready.result c.m.result (omega arith) c.ready_jobs-ready.ensures)
+    c.pairs_made-made.ensures T ok c.ready_jobs.ensures
     (λ f e. let (lt, _, _) = (c.reached-reached.ensures.read f f).0 e in omega arith) in
     let enters = enters_if_made T (g.R.Rule.shares c.args.rule.now) (In s) p q ((makes p q).0 there) in
     let (_, lt) = enters_below T (g.R.Rule.shares c.args.rule.now) ok (In s) p q enters in
@@ -36,7 +35,7 @@ returns g c =
     let is = c.in_ok-reading.ensures in
     let facts = is.facts in
     let makes =
-    c.pairs_made-made.ensures T ok (ready_first T s c.ready_jobs-ready.result c.m.result (omega arith) c.ready_jobs-ready.ensures)
+    c.pairs_made-made.ensures T ok c.ready_jobs.ensures
     (λ f e. let (lt, _, _) = (c.reached-reached.ensures.read f f).0 e in omega arith) in
     grown T R ok
     record { symmetric = g.met.R.Rule.symmetric c.args.rule.now; harmless = g.met.R.Rule.harmless c.args.rule.now }

@@ -1,13 +1,26 @@
-use Rattle.std.proofs.Common.{◌≡◌, length, None, rules, arith}
-use Rattle.reach.specs.Makings.{ReadyAt}
-use Rattle.reach.proofs.MakingLaws.{each_made}
+use Rattle.std.proofs.Common.{◌∙◌, None, refl, inl, inr, arith, length-set}
+use Rattle.std.proofs.lemmas.List.{get_or-set_same, get_or-set_other}
+use Rattle.std.proofs.lemmas.Bool.{cases_eq}
 use Rattle.reach.proofs.ready.ready_jobs.Goals as goal
+
+pub loop-j-init : goal.loop-j-init
+loop-j-init g c = (refl, λ i lt. absurd (omega arith))
+
+pub loop-j-preserved : goal.loop-j-preserved
+loop-j-preserved g c =
+    let (long, before) = c.loop-j.invariant in
+    let rs = c.loop-j.ready in
+    let k = c.loop-j.j in (
+      length-set rs k c.ready_job.result ∙ long,
+      λ i lt. elim (cases_eq i k) [
+        | inl e ↦ rw (e, get_or-set_same rs k c.ready_job.result None (omega arith)) c.ready_job.ensures
+        | inr ne ↦ rw (get_or-set_other rs k i c.ready_job.result None ne) (before i (omega arith))
+      ],
+    )
 
 pub returns : goal.returns
 returns g c =
-    let few = (g.S.Task.admitted c.args.task.now).few_jobs in
-    let made = c.from_fn.ensures.items in
-    let long : length c.from_fn.result ≡ 255 = made.long in record {
+    let (long, each) = c.loop-j.invariant in record {
       enough = omega arith;
-      each = λ j lt. each_made c.from_fn.result (ReadyAt (g.S.Task.meaning c.args.task.now) c.args.reached.now) (λ i y q called. search rules) None made j (omega arith);
+      each = λ j lt. each j (omega arith);
     }
