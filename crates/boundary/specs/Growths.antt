@@ -1,8 +1,10 @@
 -- Growing the table of a task a number of times.
 --
---   GrownBy T R k tb t s tb'    opening a book over the table tb and k growings lead to the table tb', at layer t, settled
---                               or not as s says; they end early where a growing settles the book. The first fields
---                               give the calls, the others what the theorem on lists of calls says of them
+--   GrownBy T R k tb t s tb'    k growings of a book that is opened over the table tb lead to the table tb' and to layer t,
+--                               settled or not as s says. From story to ends: the calls, an accepted opening and growings
+--                               alone, k of them, or fewer if the book is settled then. Behind: what stands behind the
+--                               entries is kept. From last_layer to entries: what the theorem on lists of calls says of
+--                               the layer, of settled and of each entry, by the first layer that equals its next
 --   TimesGrown T R k tb r tb'   what growing that often answers and writes
 use Rattle.std.specs.Prelude.{◌≡◌, ℕ, ◌<◌, ◌≤◌, min, Bool, true, ◌⊎◌, ◌↔◌, length, Ok, Err, Result}
 use Rattle.strips.specs.Tasks.{Meaning}
