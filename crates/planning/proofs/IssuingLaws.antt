@@ -32,7 +32,7 @@ module _ (T : Meaning) (R : Says) (ok : Admitted T) (law : Lawful R) (b : Book) 
 
   if_plan : {L k : ℕ} {cs : List Call} → Worked T R L k cs (record { book = b; table = tb; sheet = sh }) → (r : Result Issued NotIssued)
       → Issuing T R b tb sh r → IssuedIfPlan T R (sheet_of T.m k cs) r
-  if_plan w (Ok i) (_, _, verdict, _) = rw w.sheet at (verdict.sound_is_plan.0 refl)
+  if_plan w (Ok i) ((_, _, verdict), _) = rw w.sheet at (verdict.sound_is_plan.0 refl)
   if_plan w (Err e) (misfit why is, _) = let (rep, bad, _) = w.judged (Err e.refusal) (why, is) in absurd cc
   if_plan w (Err e) (unsound _ _ v verdict not is, _) = ((λ plan. not (verdict.sound_is_plan.1 (rw w.sheet plan))), is)
 

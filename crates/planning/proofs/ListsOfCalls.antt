@@ -31,7 +31,7 @@ module _ (T : Meaning) (R : Says) (ok : Admitted T) (law : Lawful R) (L : ℕ) (
   stepped cs w (add js) w' inv (r, s, e) = rw e (added inv js r w'.book w'.sheet s)
   stepped cs w drop w' inv (r, s, e, f) = rw (e, f) (dropped inv r w'.book s)
   stepped cs w judge w' inv (r, s, e) = rw e inv
-  stepped cs w issue w' inv (Ok i, (_, _, _, is), b, e, f) = rw (b, is, e, f) inv
+  stepped cs w issue w' inv (Ok i, (_, is), b, e, f) = rw (b, is, e, f) inv
   stepped cs w issue w' inv (Err e', (_, is), b, e, f) = rw (b, is, e, f) inv
 
   module _ (w₀ : World) (start : Kept [] w₀) where

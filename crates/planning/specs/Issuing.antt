@@ -1,11 +1,13 @@
 -- Issuing a book, reading the book that is issued, and reopening it.
 --
+--   SoundSheet T R b tb sh      task, table and sheet are the book's, and sound is the verdict on the rounds in use
 --   Unsound T R b tb sh e       e is the refusal of a book whose sheet isn't sound: first that task, table or sheet
 --                               isn't the book's, as in judging
 --   SoundOrNot T R b tb sh r    what asking whether the sheet is sound answers
 --   Issuing T R b tb sh r       what issuing answers: the issued book, which keeps the book as it is; or the
 --                               refusal, and the book as it is
 --   Reopened i b                reopening the issued book i gives the book b
+--   in_round o j                the round o, where there is one, has job j
 --   has_job rs r j              job j is in round r of the rounds rs; no job is in a round beyond them
 --   Reading i sh r j a          what the issued book i answers of job j in round r
 use Rattle.std.specs.Prelude.{◌≡◌, ℕ, ◌<◌, ◌≤◌, Bool, false, ◌⊎◌, List, length, Some, None, Ok, Err, Option, Result, slice_get}
@@ -25,24 +27,25 @@ use Rattle.planning.specs.declared.refusal.Refusal.{Refusal}
 use Rattle.planning.specs.Refusals.{told}
 use Rattle.planning.specs.Calls.{Fits}
 
+abbrev pub SoundSheet : Meaning → Says → Book → Table → List JobSet → Type 0
+SoundSheet T R b tb sh = Fits T b tb × (b.rounds ≤ length sh) × VerdictOn T R (rounds_of T.m b.rounds sh) Sound
+
 pub data Unsound (T : Meaning) (R : Says) (b : Book) (tb : Table) (sh : List JobSet) (e : Refusal) : Type 0 where
   misfit : (¬ Fits T b tb) ⊎ (length sh < b.rounds) → told e ≡ (9, 0) → Unsound T R b tb sh e
   unsound : Fits T b tb → b.rounds ≤ length sh → (v : Verdict) → VerdictOn T R (rounds_of T.m b.rounds sh) v → ¬ IsSound v
       → told e ≡ (14, 0) → Unsound T R b tb sh e
 
 abbrev pub SoundOrNot : Meaning → Says → Book → Table → List JobSet → Result Unit Refusal → Type 0
-SoundOrNot T R b tb sh (Ok _) = Fits T b tb × (b.rounds ≤ length sh) × VerdictOn T R (rounds_of T.m b.rounds sh) Sound
+SoundOrNot T R b tb sh (Ok _) = SoundSheet T R b tb sh
 SoundOrNot T R b tb sh (Err e) = Unsound T R b tb sh e
 
 abbrev pub Issuing : Meaning → Says → Book → Table → List JobSet → Result Issued NotIssued → Type 0
-Issuing T R b tb sh (Ok i) =
-    Fits T b tb × (b.rounds ≤ length sh) × VerdictOn T R (rounds_of T.m b.rounds sh) Sound × (i ≡ record { book = b })
+Issuing T R b tb sh (Ok i) = SoundSheet T R b tb sh × (i ≡ record { book = b })
 Issuing T R b tb sh (Err e) = Unsound T R b tb sh e.refusal × (e.book ≡ b)
 
 abbrev pub Reopened : Issued → Book → Type 0
 Reopened i b = b ≡ i.book
 
--- a round, where there is one, has job j
 abbrev pub in_round : Option Round → ℕ → Bool
 in_round (Some round) j = round j
 in_round None j = false

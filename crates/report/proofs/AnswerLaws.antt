@@ -53,7 +53,7 @@ module _ (T : Meaning) (R : Says) where
   step_fits w (add js) w' f (r, s, e) = rw e (add_fits w.book w.table w.sheet js r w'.book w'.sheet f s)
   step_fits w drop w' f (r, s, e, _) = rw e (drop_fits w.book w.table r w'.book f s)
   step_fits w judge w' f (r, _, e) = rw e f
-  step_fits w issue w' f (Ok _, (_, _, _, is), b, e, _) = rw (b, is, e) f
+  step_fits w issue w' f (Ok _, (_, is), b, e, _) = rw (b, is, e) f
   step_fits w issue w' f (Err _, (_, is), b, e, _) = rw (b, is, e) f
 
   run_fits : {w₀ w : World} {cs : List Call} → Fits T w₀.book w₀.table → Run T R w₀ cs w → Fits T w.book w.table
