@@ -1,4 +1,4 @@
-//! Issuing a book, reading an issued one and reopening it, on the twin count.
+//! Issuing a book, asking an issued one and reopening it, on the twin count.
 use crate::twin::{rows, twin};
 use crate::work::{add_all, refused};
 use planning::book::Book;

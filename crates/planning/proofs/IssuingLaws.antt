@@ -1,5 +1,5 @@
 -- What issuing answers, by what judging does, and after a list of calls.
-use Rattle.std.proofs.Common.{◌≡◌, ℕ, List, Ok, Err, Result, refl}
+use Rattle.std.proofs.Common.{◌≡◌, Bool, ℕ, length, ◌<◌, List, Ok, Err, Result, refl, inr}
 use Rattle.sets.specs.declared.jobs.JobSet.{JobSet}
 use Rattle.strips.specs.Tasks.{Meaning, Admitted}
 use Rattle.strips.specs.Rules.{Says, Lawful}
@@ -15,9 +15,9 @@ use Rattle.planning.specs.declared.refusal.Refusal.{Refusal}
 use Rattle.planning.specs.declared.report.Report.{Report}
 use Rattle.planning.specs.Refusals.{told}
 use Rattle.planning.specs.Calls.{Reported}
-use Rattle.planning.specs.Issuing.{Unsound, misfit, unsound, SoundOrNot, Issuing}
+use Rattle.planning.specs.Issuing.{Unsound, misfit, unsound, SoundOrNot, Issuing, JobAsked}
 use Rattle.planning.specs.Runs.{Call, sheet_of}
-use Rattle.planning.specs.Main.{Worked, IssuedIfPlan, IssuedOfRuns}
+use Rattle.planning.specs.Main.{Worked, IssuedIfPlan, IssuedOfRuns, AskedOfRuns}
 use Rattle.planning.proofs.ListsOfCalls.{stories}
 
 module _ (T : Meaning) (R : Says) (ok : Admitted T) (law : Lawful R) (b : Book) (tb : Table) (sh : List JobSet) where
@@ -38,3 +38,16 @@ module _ (T : Meaning) (R : Says) (ok : Admitted T) (law : Lawful R) (b : Book) 
 
   pub issued_of_runs : (r : Result Issued NotIssued) → Issuing T R b tb sh r → IssuedOfRuns T R b tb sh r
   issued_of_runs r answer σ here = if_plan (rw here at ((stories T R ok law).worked σ)) r answer
+
+-- what an issued book answers, after a list of calls that leads to its book and the sheet
+pub asked_of_runs : (i : Issued) (sh : List JobSet) (r j : ℕ) (a : Result Bool Refusal) → JobAsked i sh r j a → AskedOfRuns i sh r j a
+asked_of_runs i sh r j (Ok a) (_, is) T R ok law σ b s =
+    let w = (stories T R ok law).worked σ in
+    let m = w.fits.m_is in
+    let rounds = w.sheet in
+    cc
+asked_of_runs i sh r j (Err e) (lt, is) T R ok law σ b s =
+    let w = (stories T R ok law).worked σ in
+    let short : length σ.last.sheet < σ.last.book.rounds = (rw (b, s) lt) in
+    let (rep, bad, _) = w.judged (Err e) (inr short, is) in
+    absurd cc

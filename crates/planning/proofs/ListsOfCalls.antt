@@ -19,7 +19,7 @@ use Rattle.planning.specs.declared.report.Report.{Report}
 use Rattle.planning.specs.Calls.{Judging}
 use Rattle.planning.specs.Runs.{World, Call, grow, add, drop, judge, issue, Step, Run, opened, called, Story, growings, sheet_of}
 use Rattle.planning.specs.Main.{ToldAfter, EntryAfter, Worked, Alike, Stories, ListsOfCalls, HoldsOfRuns}
-use Rattle.planning.proofs.Invariant.{Inv, length_is, grown, added, dropped, first_inv}
+use Rattle.planning.proofs.Invariant.{Inv, fits, length_is, grown, added, dropped, first_inv}
 use Rattle.planning.proofs.Judgements.{judged_well}
 
 module _ (T : Meaning) (R : Says) (ok : Admitted T) (law : Lawful R) (L : ℕ) (last : Settles T R L) (places : ℕ) where
@@ -42,6 +42,7 @@ module _ (T : Meaning) (R : Says) (ok : Admitted T) (law : Lawful R) (L : ℕ) (
   worked : (cs : List Call) (w : World) → Kept cs w → Worked T R L places cs w
   worked cs w inv =
       record {
+        fits = fits inv;
         layer = inv.layer;
         settled = (
           (λ s. elim inv.settled [ inl (_, lt) ↦ lt | inr (n, _) ↦ absurd (both_ways _ n s) ]),

@@ -1,15 +1,16 @@
--- Issuing a book, reading the book that is issued, and reopening it.
+-- Issuing a book, asking the book that is issued, and reopening it.
 --
---   SoundSheet T R b tb sh      task, table and sheet are the book's, and sound is the verdict on the rounds in use
---   Unsound T R b tb sh e       e is the refusal of a book whose sheet isn't sound: first that task, table or sheet
---                               isn't the book's, as in judging
+--   SoundSheet T R b tb sh      the task has the book's n and m, the table an entry for each pair, the sheet a place for
+--                               each round, and sound is the verdict on the rounds in use
+--   Unsound T R b tb sh e       that isn't so, and e is the refusal: 9 where task, table or sheet doesn't fit, as in
+--                               judging, else 14
 --   SoundOrNot T R b tb sh r    what asking whether the sheet is sound answers
 --   Issuing T R b tb sh r       what issuing answers: the issued book, which keeps the book as it is; or the
 --                               refusal, and the book as it is
 --   Reopened i b                reopening the issued book i gives the book b
 --   in_round o j                the round o, where there is one, has job j
 --   has_job rs r j              job j is in round r of the rounds rs; no job is in a round beyond them
---   Reading i sh r j a          what the issued book i answers of job j in round r
+--   JobAsked i sh r j a         what the issued book i answers when it is asked for job j in round r
 use Rattle.std.specs.Prelude.{◌≡◌, ℕ, ◌<◌, ◌≤◌, Bool, false, ◌⊎◌, List, length, Some, None, Ok, Err, Option, Result, slice_get}
 use Rattle.sets.specs.declared.jobs.JobSet.{JobSet}
 use Rattle.strips.specs.Tasks.{Meaning}
@@ -53,6 +54,6 @@ in_round None j = false
 abbrev pub has_job : List Round → ℕ → ℕ → Bool
 has_job rs r j = in_round (slice_get rs r) j
 
-abbrev pub Reading : Issued → List JobSet → ℕ → ℕ → Result Bool Refusal → Type 0
-Reading i sh r j (Ok a) = (i.book.rounds ≤ length sh) × (a ≡ has_job (rounds_of i.book.m i.book.rounds sh) r j)
-Reading i sh r j (Err e) = (length sh < i.book.rounds) × (told e ≡ (9, 0))
+abbrev pub JobAsked : Issued → List JobSet → ℕ → ℕ → Result Bool Refusal → Type 0
+JobAsked i sh r j (Ok a) = (i.book.rounds ≤ length sh) × (a ≡ has_job (rounds_of i.book.m i.book.rounds sh) r j)
+JobAsked i sh r j (Err e) = (length sh < i.book.rounds) × (told e ≡ (9, 0))

@@ -16,10 +16,12 @@
 --   HoldsOfRuns             the same for one task, rule, book, table and sheet and one answer of judging, for
 --                           all lists of calls that lead there
 --   IssuedIfPlan T R rs r   what issuing answers of the rounds rs of a list of calls: they are a plan, and the book
---                           is issued; or it is refused with 14, and they are none
+--                           is issued; or they are no plan, and it is refused with 14
 --   IssuedOfRuns            so it is for one task, rule, book, table and sheet and one answer of issuing, for all
 --                           lists of calls that lead there
-use Rattle.std.specs.Prelude.{◌≡◌, ℕ, suc, ◌<◌, ◌≤◌, min, true, ◌⊎◌, ◌↔◌, ⊤, List, length, Ok, Err, Result, slice_index}
+--   AskedOfRuns i sh r j a  what an issued book answers of job j in round r, for all lists of calls that lead to its
+--                           book and this sheet: whether that round of the list has the job
+use Rattle.std.specs.Prelude.{◌≡◌, ℕ, suc, ◌<◌, ◌≤◌, min, Bool, true, ◌⊎◌, ◌↔◌, ⊤, List, length, Ok, Err, Result, slice_index}
 use Rattle.sets.specs.declared.jobs.JobSet.{JobSet}
 use Rattle.strips.specs.Tasks.{Meaning, Admitted}
 use Rattle.strips.specs.Rules.{Says, Lawful}
@@ -38,7 +40,8 @@ use Rattle.planning.specs.declared.report.Distance.TheVariants.{Told, NoPlan, At
 use Rattle.planning.specs.declared.report.Report.{Report}
 use Rattle.planning.specs.Refusals.{told}
 use Rattle.planning.specs.Reports.{excess_of, Shortest}
-use Rattle.planning.specs.Calls.{Judging}
+use Rattle.planning.specs.Calls.{Fits, Judging}
+use Rattle.planning.specs.Issuing.{has_job}
 use Rattle.planning.specs.Runs.{World, Call, Story, growings, sheet_of}
 
 abbrev pub Bounds : Meaning → Says → Distance → Type 0
@@ -69,6 +72,7 @@ pub record JudgedWell (T : Meaning) (R : Says) (L g : ℕ) (rs : List Round) (re
   pub shortest : Shortest rep → (others : List Round) → Plan T R others → length rs ≤ length others
 
 pub record Worked (T : Meaning) (R : Says) (L k : ℕ) (cs : List Call) (w : World) : Type 0 where
+  pub fits : Fits T w.book w.table
   pub layer : w.book.t ≡ min (growings cs) L
   pub settled : (w.book.settled ≡ true) ↔ (L < growings cs)
   pub entries : (p q : ℕ) → p < T.n → q < T.n → EntryAfter T R (min (growings cs) L) p q (entry w.table p q)
@@ -108,3 +112,8 @@ abbrev pub IssuedOfRuns : Meaning → Says → Book → Table → List JobSet �
 IssuedOfRuns T R b tb sh r =
     (σ : Story T R) → σ.last ≡ record { book = b; table = tb; sheet = sh }
     → IssuedIfPlan T R (sheet_of T.m (length σ.first.sheet) σ.calls) r
+
+abbrev pub AskedOfRuns : Issued → List JobSet → ℕ → ℕ → Result Bool Refusal → Type 0
+AskedOfRuns i sh r j a =
+    (T : Meaning) (R : Says) → Admitted T → Lawful R → (σ : Story T R) → σ.last.book ≡ i.book → σ.last.sheet ≡ sh
+    → a ≡ Ok (has_job (sheet_of T.m (length σ.first.sheet) σ.calls) r j)

@@ -1,4 +1,4 @@
-//! The book: its five calls, and issuing.
+//! The book: its five calls, asking it, and issuing.
 mod add;
 mod ask;
 mod distance;

@@ -28,8 +28,8 @@ impl Book {
         Ok(())
     }
 
-    /// Issues the book if its sheet is sound under the rule: what it had is in the issued book, which gives it back when
-    /// it is reopened. The sheet is then a plan, every order in which its jobs may come back is permitted and ends in
+    /// Issues the book if its sheet is sound under the rule: the issued book has this one in it, and gives it back when it is
+    /// reopened. The sheet is then a plan, every order in which its jobs may come back is permitted and ends in
     /// one state that holds the goal, and no other verdict is right. Nothing is written.
     ///
     /// Refused, and the book comes back as it was: 9, place 0, if there are fewer entries than n(n+1)/2, fewer places than
