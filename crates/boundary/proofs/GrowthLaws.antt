@@ -11,7 +11,6 @@ use Rattle.planning.specs.Runs.{World, grow, opened, called, Story, growings}
 use Rattle.planning.specs.Main.{Worked}
 use Rattle.planning.proofs.ListsOfCalls.{stories}
 use Rattle.report.specs.Growing.{growths}
-use Rattle.report.proofs.AnswerLaws.{story_fits}
 use Rattle.boundary.specs.Growths.{GrownBy}
 
 abbrev world : Book → Table → World
@@ -77,11 +76,12 @@ module _ (T : Meaning) (R : Says) (tb₀ : Table) where
         }
 
     -- a book that isn't settled grows
-    pub not_refused : (e : Refusal) (b' : Book) (tb' : Table) → b.settled ≡ false → Grew T R b tb (Err e) b' tb' → ⊥
-    not_refused e b' tb' n (misfit bad _ _ _) = bad (let f = story_fits T R so_far.story in rw so_far.here at f)
-    not_refused e b' tb' n (no_more _ y _ _ _) = both_ways b.settled n y
-    not_refused e b' tb' n (settles _ _ _ fine _ _) = false≢true fine
-    not_refused e b' tb' n (rises _ _ _ _ fine _) = false≢true fine
+    pub not_refused : Admitted T → Lawful R → (e : Refusal) (b' : Book) (tb' : Table) → b.settled ≡ false → Grew T R b tb (Err e) b' tb' → ⊥
+    not_refused ok law e b' tb' n (misfit bad _ _ _) =
+        bad (let f = ((stories T R ok law).worked so_far.story).fits in rw so_far.here at f)
+    not_refused ok law e b' tb' n (no_more _ y _ _ _) = both_ways b.settled n y
+    not_refused ok law e b' tb' n (settles _ _ _ fine _ _) = false≢true fine
+    not_refused ok law e b' tb' n (rises _ _ _ _ fine _) = false≢true fine
 
     -- what the theorem on lists of calls says of the table
     pub grown_by : Admitted T → Lawful R → (k : ℕ) → (times ≡ k) ⊎ ((times ≤ k) × (b.settled ≡ true)) → GrownBy T R k tb₀ b.t b.settled tb

@@ -1,9 +1,9 @@
 -- What is judged after growing to the end is the answer.
-use Rattle.std.proofs.Common.{◌≡◌, ℕ, zero, suc, List, ◌++◌, length, Ok, Err, Result, refl, arith}
+use Rattle.std.proofs.Common.{◌≡◌, ℕ, zero, suc, List, ◌++◌, length, Ok, Result, refl}
 use Rattle.std.proofs.lemmas.Bool.{both_ways}
 use Rattle.sets.specs.declared.jobs.JobSet.{JobSet}
-use Rattle.strips.specs.Tasks.{Meaning}
-use Rattle.strips.specs.Rules.{Says}
+use Rattle.strips.specs.Tasks.{Meaning, Admitted}
+use Rattle.strips.specs.Rules.{Says, Lawful}
 use Rattle.strips.specs.Rounds.{Round}
 use Rattle.layers.specs.Bounds.{Settles}
 use Rattle.reach.specs.Tables.{Table}
@@ -12,10 +12,10 @@ use Rattle.planning.specs.declared.refusal.Refusal.{Refusal}
 use Rattle.planning.specs.declared.report.Distance.{Distance}
 use Rattle.planning.specs.declared.report.Distance.TheVariants.{Told, NoPlan, AtLeast}
 use Rattle.planning.specs.declared.report.Report.{Report}
-use Rattle.planning.specs.Calls.{Fits, Opened, Grew, misfit, no_more, settles, rises, Dropped, no_round, one_less, ToldBy, Judging}
-use Rattle.planning.specs.Adding.{Added, short, faulty, full, appended}
-use Rattle.planning.specs.Runs.{World, Call, grow, add, drop, judge, issue, Step, Run, opened, called, Story, sheet_of}
+use Rattle.planning.specs.Calls.{Fits, ToldBy, Judging}
+use Rattle.planning.specs.Runs.{World, Call, Run, opened, called, Story, sheet_of}
 use Rattle.planning.specs.Main.{ToldAfter, Decided, JudgedWell, HoldsOfRuns}
+use Rattle.planning.proofs.ListsOfCalls.{stories}
 use Rattle.report.specs.Growing.{growths, GrownOut}
 use Rattle.report.specs.Answers.{TrueOf, Answer, AnswersRuns}
 
@@ -30,44 +30,6 @@ sheet_grown m k zero cs = refl
 sheet_grown m k (suc n) cs = sheet_grown m k n cs
 
 module _ (T : Meaning) (R : Says) where
-  grow_fits : (b : Book) (tb : Table) (r : Result Unit Refusal) (b' : Book) (tb' : Table) → Fits T b tb → Grew T R b tb r b' tb' → Fits T b' tb'
-  grow_fits b tb r b' tb' f (misfit _ _ bs ts) = rw (bs, ts) f
-  grow_fits b tb r b' tb' f (no_more _ _ _ bs ts) = rw (bs, ts) f
-  grow_fits b tb r b' tb' f (settles _ _ _ _ bs ts) = rw (bs, ts) record { n_is = f.n_is; m_is = f.m_is; room = f.room }
-  grow_fits b tb r b' tb' f (rises _ _ _ next _ bs) =
-      rw bs record { n_is = f.n_is; m_is = f.m_is; room = let room = f.room in let same = next.kept.same_length in omega arith }
-
-  add_fits : (b : Book) (tb : Table) (sh : List JobSet) (js : List ℕ) (r : Result Unit Refusal) (b' : Book) (sh' : List JobSet)
-      → Fits T b tb → Added b sh js r b' sh' → Fits T b' tb
-  add_fits b tb sh js r b' sh' f (short _ _ bs _) = rw bs f
-  add_fits b tb sh js r b' sh' f (faulty _ _ _ _ bs _) = rw bs f
-  add_fits b tb sh js r b' sh' f (full _ _ _ _ bs _) = rw bs f
-  add_fits b tb sh js r b' sh' f (appended _ _ _ _ _ _ bs) = rw bs record { n_is = f.n_is; m_is = f.m_is; room = f.room }
-
-  drop_fits : (b : Book) (tb : Table) (r : Result Unit Refusal) (b' : Book) → Fits T b tb → Dropped b r b' → Fits T b' tb
-  drop_fits b tb r b' f (no_round _ _ bs) = rw bs f
-  drop_fits b tb r b' f (one_less _ _ bs) = rw bs record { n_is = f.n_is; m_is = f.m_is; room = f.room }
-
-  step_fits : (w : World) (c : Call) (w' : World) → Fits T w.book w.table → Step T R w c w' → Fits T w'.book w'.table
-  step_fits w grow w' f (r, s, _) = grow_fits w.book w.table r w'.book w'.table f s
-  step_fits w (add js) w' f (r, s, e) = rw e (add_fits w.book w.table w.sheet js r w'.book w'.sheet f s)
-  step_fits w drop w' f (r, s, e, _) = rw e (drop_fits w.book w.table r w'.book f s)
-  step_fits w judge w' f (r, _, e) = rw e f
-  step_fits w issue w' f (Ok _, (_, is), b, e, _) = rw (b, is, e) f
-  step_fits w issue w' f (Err _, (_, is), b, e, _) = rw (b, is, e) f
-
-  run_fits : {w₀ w : World} {cs : List Call} → Fits T w₀.book w₀.table → Run T R w₀ cs w → Fits T w.book w.table
-  run_fits f opened = f
-  run_fits f (called {w = w} c w' r s) = step_fits w c w' (run_fits f r) s
-
-  open_fits : (tb : Table) (b : Book) (tb' : Table) → Opened T tb (Ok b) tb' → Fits T b tb'
-  open_fits tb b tb' (room, written, is) =
-      rw is record { n_is = refl; m_is = refl; room = let same = written.kept.same_length in omega arith }
-
-  -- what the calls of a list are lent is the book's
-  pub story_fits : (σ : Story T R) → Fits T σ.last.book σ.last.table
-  story_fits σ = run_fits (open_fits σ.table σ.first.book σ.first.table σ.opening) σ.run
-
   -- one book tells one thing from one table
   decided_too : (b : Book) (tb : Table) (d d' : Distance) → ToldBy T b tb d → Decided d → ToldBy T b tb d' → Decided d'
   decided_too b tb d (Told _) _ _ _ = tt
@@ -113,7 +75,8 @@ module _ (T : Meaning) (R : Says) where
         (decided_too b' tb' d rep.distance by decided known.distance) well))
 
   -- growing is not refused after a list of calls
-  pub not_refused : (b : Book) (tb : Table) (sh : List JobSet) (r : Result Report Refusal) → (Fits T b tb → ⊥) → AnswersRuns T R b tb sh r
-  not_refused b tb sh r bad σ here =
-      let f : Fits T b tb = (let g = story_fits σ in rw here at g) in
-      absurd (bad f)
+  pub not_refused : Admitted T → Lawful R → (b : Book) (tb : Table) (sh : List JobSet) (r : Result Report Refusal) → (Fits T b tb → ⊥)
+      → AnswersRuns T R b tb sh r
+  not_refused ok law b tb sh r bad σ here =
+      let fits = ((stories T R ok law).worked σ).fits in
+      absurd (bad (rw here at fits))

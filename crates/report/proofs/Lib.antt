@@ -1,5 +1,5 @@
 mod GrowingLaws
-pub mod AnswerLaws
+mod AnswerLaws
 pub mod LoadingLaws
 mod PlanLaws
 mod FilesLaws

@@ -27,7 +27,8 @@ returns-in_err-book g c =
 pub returns-in_err-grow : goal.returns-in_err-grow
 returns-in_err-grow g c =
     absurd (not_refused (g.S.Task.meaning c.args.task.now) (g.R.Rule.shares c.args.rule.now) c.args.table.now
-    c.loop-done.invariant.so_far c.in_err-grow.field-0.0 c.grow.new.self c.grow.new.table (search rules) c.in_err-grow.ensures)
+    c.loop-done.invariant.so_far (g.S.Task.admitted c.args.task.now)
+    record { symmetric = g.met.R.Rule.symmetric c.args.rule.now; harmless = g.met.R.Rule.harmless c.args.rule.now } c.in_err-grow.field-0.0 c.grow.new.self c.grow.new.table (search rules) c.in_err-grow.ensures)
 
 pub returns-after-loop-done : goal.returns-after-loop-done
 returns-after-loop-done g c =
