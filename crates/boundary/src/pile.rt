@@ -24,7 +24,7 @@ pub(crate) enum Pile {
 }
 
 impl Pile {
-    /// The pile of this number; there are four from 0 up, and each larger number is the fifth.
+    /// The pile of this number: 0 to 3 are the first four, each larger number the fifth.
     fn of(number: u8) -> Pile
         ensures { result ≡ pile_of number }
     {

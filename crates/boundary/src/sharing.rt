@@ -18,7 +18,7 @@ pub(crate) enum Sharing {
 }
 
 impl Sharing {
-    /// The rule of this number; there are two from 0 up, and each larger number is the third.
+    /// The rule of this number: 0 and 1 are the first two, each larger number the third.
     pub(crate) fn of(number: u8) -> Sharing
         ensures { result ≡ sharing_of number }
     {

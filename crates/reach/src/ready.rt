@@ -23,7 +23,7 @@ fn ready_job<S: Task>(task: &S, reached: &PairSet, j: u8) -> Option<Ready>
     job.needs.is_subset(common).then_some(Ready { job, common })
 }
 
-/// Writes the ready jobs, each to the place of its number, and nothing to the places of the others.
+/// Writes each ready job to the place of its number, and `None` to every other place.
 pub(crate) fn ready_jobs<S: Task>(task: &S, reached: &PairSet, ready: &mut [Option<Ready>])
     requires { length ready.old ≡ (S.Task.meaning task.now).m }
     ensures { ReadyJobs (S.Task.meaning task.now) reached.now ready.new }
