@@ -47,7 +47,12 @@ fn short_memory_and_other_tasks_are_refused_first(rt: HostRuntime) -> Result<(),
     let mut book = grown(&twin, &Apart, &mut table, 2)?;
     refused(&rt, book.grow(&twin, &Apart, &mut short), 9, 0)?;
     refused(&rt, book.grow(&other, &Apart, &mut table), 9, 0)?;
-    refused(&rt, book.grow(&twin, &Apart, &mut table), 13, 0)
+    refused(&rt, book.grow(&twin, &Apart, &mut table), 13, 0)?;
+    refused(&rt, book.distance(&twin, &short), 9, 0)?;
+    let mut sheet = [JobSet::empty(); 1];
+    book.add(&mut sheet, &[0, 1])?;
+    refused(&rt, book.add(&mut sheet[0..0], &[7]), 9, 0)?;
+    refused(&rt, book.judge(&twin, &Apart, &table, &sheet[0..0]), 9, 0)
 }
 
 #[test]
