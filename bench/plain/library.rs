@@ -62,10 +62,11 @@ pub fn report(task_file: &[u8], plan_file: &[u8], text: &mut [u8]) -> usize {
 
 /// Grows the table of a count so many times, or until it is settled.
 pub fn table(task_file: &[u8], count: &Count, growings: u16, table: &mut [u16]) -> Answer {
-    // No answer has these bytes, so that one that isn't written in full is seen.
+    // No answer has these numbers, so that one that isn't written in full is seen. `settled` has to be 0 or 1 here, and is now the
+    // one and now the other.
     let mut answer = Answer {
         number: 0xEE,
-        settled: 0xEE,
+        settled: (growings % 2) as u8,
         layer: 0xEEEE,
         place: 0xEEEE_EEEE,
     };

@@ -80,13 +80,7 @@ fn random_task(facts: usize, jobs: usize) -> Task {
     let draws = &mut Draws::of_seed(RANDOM_SEED);
     let start = draws.facts(8, facts);
     let job = |draws: &mut Draws| drawn_job(draws, facts, [(1, 3), (1, 3), (0, 2)]);
-    let jobs = (0..jobs).map(|_| job(draws)).collect();
-    Task {
-        facts,
-        jobs,
-        start,
-        goal: Facts::NONE,
-    }
+    without_goal(facts, start, (0..jobs).map(|_| job(draws)))
 }
 
 /// With fewer facts the numbers of draws are smaller in proportion.
@@ -96,10 +90,13 @@ fn dense_task(facts: usize, jobs: usize) -> Task {
     let start = draws.facts(part(20), facts);
     let lists = [(2, 8), (20, 50), (20, 50)].map(|(least, most)| (part(least), part(most)));
     let job = |draws: &mut Draws| drawn_job(draws, facts, lists);
-    let jobs = (0..jobs).map(|_| job(draws)).collect();
+    without_goal(facts, start, (0..jobs).map(|_| job(draws)))
+}
+
+fn without_goal(facts: usize, start: Facts, jobs: impl Iterator<Item = Option<Job>>) -> Task {
     Task {
         facts,
-        jobs,
+        jobs: jobs.collect(),
         start,
         goal: Facts::NONE,
     }
@@ -137,12 +134,7 @@ fn chain_task(places: usize, jobs: usize) -> Task {
         })
     };
     let start = Facts::pair(0, 40 * places / FULL_FACTS);
-    Task {
-        facts: places,
-        jobs: (0..jobs).map(job).collect(),
-        start,
-        goal: Facts::NONE,
-    }
+    without_goal(places, start, (0..jobs).map(job))
 }
 
 #[derive(Clone, Copy, PartialEq, Eq, Debug)]
