@@ -5,8 +5,8 @@ ghost use Rattle.sets.specs.Search.{Finds, listed};
 
 // Two words with names, and not one type with `JobSet` over a constant number of words: in a trial, walks with meets
 // and unions took 37.3 million instructions over `[u64; 2]`, and 18.8 as here.
-/// A set of facts below 128. The default has no members.
-#[derive(Clone, Copy, Default)]
+/// A set of facts below 128.
+#[derive(Clone, Copy)]
 pub struct FactSet {
     low: u64,
     high: u64,
@@ -164,5 +164,14 @@ impl FactSet {
         } else {
             None
         }
+    }
+}
+
+impl Default for FactSet {
+    ghost is_default = { λ s. (f : ℕ) → has s f ≡ false };
+
+    /// The set without members.
+    fn default() -> FactSet {
+        Self::empty()
     }
 }

@@ -37,7 +37,7 @@ impl JobSet {
         (self.words[job as usize / 64] >> (job % 64)) & 1 == 1
     }
 
-    /// Makes `job` a member.
+    /// Makes `job` a member; the other members stay, and no other number becomes one.
     pub fn insert(&mut self, job: u8)
         ensures { (j : ℕ) → includes self.new j ≡ (includes self.old j || j == job) }
     {

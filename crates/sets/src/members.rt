@@ -40,6 +40,8 @@ impl Iterator for Members {
 
     ghost remaining = { λ s. at_most (256 - s.from) };
 
+    /// The lowest member that is still to come, and from then on only those above it are still to come;
+    /// or none where no member is, and nothing changes.
     fn next(&mut self) -> Option<u8> {
         let job = self.set.next(self.from).filter(|job| *job < self.end)?;
         self.from = job as u16 + 1;

@@ -27,6 +27,8 @@ impl Iterator for FactWalk {
 
     ghost remaining = { λ s. at_most (size s.left) };
 
+    /// The lowest fact left, which alone is then no longer left; or none where no fact is left, and nothing
+    /// changes.
     fn next(&mut self) -> Option<u8> {
         let fact = self.left.lowest()?;
         self.left = self.left.minus(FactSet::single(fact));
