@@ -5,3 +5,4 @@ pub mod MemberSearch
 pub mod SearchLaws
 pub mod SizeLaws
 pub mod WalkLaws
+pub mod Walked

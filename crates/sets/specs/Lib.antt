@@ -4,3 +4,4 @@ pub mod Facts
 pub mod Jobs
 pub mod Members
 pub mod Walk
+pub mod Walked

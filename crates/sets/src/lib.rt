@@ -8,4 +8,5 @@
 pub mod facts;
 pub mod jobs;
 pub mod members;
+pub mod theorems;
 pub mod walk;
