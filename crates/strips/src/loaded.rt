@@ -10,7 +10,9 @@ use sets::facts::FactSet;
 
 /// A task that answers from rows that the caller lends, one row a job.
 ///
-/// Its `m` is the header's, or the number of rows if that is less.
+/// Its `n`, start and goal are the header's. Its `m` is the header's too, or the number of rows if that is less.
+/// Job `j` is what row `j` stands for in a task of `n` facts (`Row::job`); numbers from `m` up are absent, so rows
+/// from the header's `m` up don't count. Any header over any rows is a task, and no answer writes to a row.
 #[derive(Clone, Copy)]
 pub struct Loaded<'a> {
     pub header: Header,

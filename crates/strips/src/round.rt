@@ -9,7 +9,8 @@ use sets::facts::FactSet;
 use sets::jobs::JobSet;
 
 /// The state after the round at `place`: `state` with all adds of its jobs, then without all their
-/// deletes. Numbers of absent jobs, as those from `m` up, don't count.
+/// deletes, whether the round is allowed in `state` or not. Numbers of absent jobs, as those from `m` up, don't
+/// count, so a pause leaves the state as it is. Nothing is written.
 pub fn state_after<S: Task>(task: &S, state: FactSet, place: &JobSet) -> FactSet
     ensures { has result ≡ Rounds.result (S.Task.meaning task.now) (has state) (round_of (S.Task.meaning task.now).m place.now) }
 {

@@ -1,6 +1,6 @@
 //! What keeps four values from being a header, and how it reads.
-ghost use Rattle.std.specs.Prelude.{Some};
-ghost use Rattle.strips.specs.Headers.{text};
+ghost use Rattle.std.specs.Prelude.{◌≡◌, Some};
+ghost use Rattle.strips.specs.Headers.{told, text};
 
 use std::error::Error;
 use std::fmt;
@@ -14,6 +14,19 @@ pub enum HeaderFault {
     StartFact(u8),
     /// The lowest goal fact that the task doesn't have.
     GoalFact(u8),
+}
+
+impl HeaderFault {
+    /// The two numbers of the refusal that the fault stands for, its own and its place: 4 for the number of
+    /// facts, 5 for a fact that the task doesn't have; the place is 0, since four values have no other.
+    pub fn told(self) -> (u8, usize)
+        ensures { result ≡ told self }
+    {
+        match self {
+            HeaderFault::FactCount => (4, 0),
+            HeaderFault::StartFact(_) | HeaderFault::GoalFact(_) => (5, 0),
+        }
+    }
 }
 
 /// As `the number of facts is not from 1 to 128`, `the task has no start fact 7` or

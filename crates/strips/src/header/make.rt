@@ -13,8 +13,11 @@ fn lowest_stray(set: FactSet, n: u8) -> Option<u8>
 }
 
 impl Header {
-    /// The header of these four values. Refused, in this order: a number of facts outside 1 to 128, a
-    /// start fact from `n` up, a goal fact from `n` up; the lowest such fact is named.
+    /// The header of these four values, where `n` is from 1 to 128, and no start or goal fact is `n` or above.
+    ///
+    /// Else refused with the first of these faults, and what it tells: a number of facts outside 1 to 128 (4, at
+    /// place 0); a start fact from `n` up, the lowest of them (5, at place 0); a goal fact from `n` up, the lowest of
+    /// them (5, at place 0).
     pub fn new(n: u8, m: u8, start: FactSet, goal: FactSet) -> Result<Header, HeaderFault>
         ensures { Headed n m start goal result }
     {
