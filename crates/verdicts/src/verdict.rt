@@ -20,7 +20,8 @@ pub enum Verdict {
 }
 
 impl Verdict {
-    /// The round at fault, where a round is.
+    /// The number of the round at fault: that of a verdict closed, clash or missing. None for goal and sound, which
+    /// are of no round.
     pub fn round(self) -> Option<u16>
         ensures { result ≡ fault_round self }
     {
