@@ -3,7 +3,8 @@
 --   Table                 the entries
 --   entry tb p q          the entry of the pair {p, q}
 --   Room n tb             the table has an entry for each pair of n facts
---   Short n tb e          it has too few, and e says how many, and for how many facts
+--   told e                the two numbers of the refusal that the error e stands for: 9, at place 0
+--   Short n tb e          the table has too few entries, which is refused, and e says how many, and for how many facts
 --   text e                how e reads, as `9 entries for 4 facts`
 --   Reads n t tb          the table of n facts read as layer t: an entry up to t is reached, a larger one
 --                         isn't
@@ -39,8 +40,11 @@ entry tb p q = slice_index tb (entry_number p q)
 abbrev pub Room : ℕ → Table → Type 0
 Room n tb = pair_count n ≤ length tb
 
+abbrev pub told : ShortTable → ℕ × ℕ
+told e = (9, 0)
+
 abbrev pub Short : ℕ → Table → ShortTable → Type 0
-Short n tb e = (length tb < pair_count n) × (e ≡ record { entries = length tb; facts = n })
+Short n tb e = (length tb < pair_count n) × (told e ≡ (9, 0)) × (e ≡ record { entries = length tb; facts = n })
 
 abbrev pub text : ShortTable → List ℕ
 text e = decimal e.entries ++ (codes " entries for " ++ (decimal e.facts ++ codes " facts"))

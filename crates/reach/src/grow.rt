@@ -13,9 +13,12 @@ use strips::task::{MOST_JOBS, Task};
 /// Grows the table of the task by a layer under the rule, and says whether a pair is new.
 ///
 /// An entry up to `t` counts as reached, a larger one not, whatever the table holds. Each pair of the
-/// task's facts that isn't reached and enters behind that layer gets `t + 1` as its entry; all other
-/// entries are as they were. Where there is none, or `t` is n(n+1)/2 or more, nothing is written and the
-/// answer is false. Fewer entries than n(n+1)/2 are refused, and then nothing is written.
+/// task's facts that isn't reached and enters behind that layer gets `t + 1` as its entry, and the answer is true; all
+/// other entries, those above `t` of pairs that don't enter too, and what stands behind the first n(n+1)/2, are as they
+/// were. Where there is no such pair, or `t` is n(n+1)/2 or more, nothing is written and the answer is false.
+///
+/// Fewer entries than n(n+1)/2 are refused, which tells 9 at place 0, with the number of entries and that of facts,
+/// and then nothing is written.
 pub fn grow_table<S: Task, R: Rule>(
     task: &S,
     rule: &R,
