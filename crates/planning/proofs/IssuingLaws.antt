@@ -1,5 +1,5 @@
 -- What issuing answers, by what judging does, and after a list of calls.
-use Rattle.std.proofs.Common.{◌≡◌, Bool, ℕ, length, ◌<◌, List, Ok, Err, Result, refl, inr}
+use Rattle.std.proofs.Common.{◌≡◌, Bool, ℕ, length, ◌<◌, List, Ok, Err, Result, codes, [], refl, inr}
 use Rattle.sets.specs.declared.jobs.JobSet.{JobSet}
 use Rattle.strips.specs.Tasks.{Meaning, Admitted}
 use Rattle.strips.specs.Rules.{Says, Lawful}
@@ -25,14 +25,14 @@ module _ (T : Meaning) (R : Says) (ok : Admitted T) (law : Lawful R) (b : Book) 
   verdict_of rep h = verdict_on T R ok law b.rounds sh rep.verdict h.verdict
 
   pub found_sound : (rep : Report) → Reported T R b tb sh rep → rep.verdict ≡ Sound → SoundOrNot T R b tb sh (Ok tt)
-  found_sound rep h is = (h.fits, h.places, rw is at (verdict_of rep h))
+  found_sound rep h is = (h.fits, h.places, (rep.verdict, verdict_of rep h, rw is refl))
 
   pub found_unsound : (rep : Report) → Reported T R b tb sh rep → (IsSound rep.verdict → ⊥) → (e : Refusal) → told e ≡ (14, 0) → Unsound T R b tb sh e
   found_unsound rep h not e is = unsound h.fits h.places rep.verdict (verdict_of rep h) not is
 
   if_plan : {L k : ℕ} {cs : List Call} → Worked T R L k cs (record { book = b; table = tb; sheet = sh }) → (r : Result Issued NotIssued)
       → Issuing T R b tb sh r → IssuedIfPlan T R (sheet_of T.m k cs) r
-  if_plan w (Ok i) ((_, _, verdict), _) = rw w.sheet at (verdict.sound_is_plan.0 refl)
+  if_plan w (Ok i) ((_, _, (v, verdict, is)), _) = rw w.sheet at (verdict.sound_is_plan.0 is)
   if_plan w (Err e) (misfit why is, _) = let (rep, bad, _) = w.judged (Err e.refusal) (why, is) in absurd cc
   if_plan w (Err e) (unsound _ _ v verdict not is, _) = ((λ plan. not (verdict.sound_is_plan.1 (rw w.sheet plan))), is)
 

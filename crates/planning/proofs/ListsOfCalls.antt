@@ -14,13 +14,14 @@ use Rattle.reach.specs.Tables.{Table, entry}
 use Rattle.planning.specs.declared.book.Book.{Book}
 use Rattle.planning.specs.declared.refusal.Refusal.{Refusal}
 use Rattle.planning.specs.declared.report.Distance.{Distance}
-use Rattle.planning.specs.declared.report.Distance.TheVariants.{Told, NoPlan, AtLeast}
 use Rattle.planning.specs.declared.report.Report.{Report}
-use Rattle.planning.specs.Calls.{Judging}
+use Rattle.planning.specs.Reports.{told, number, none, at_least}
+use Rattle.planning.specs.Calls.{Asked, Judging}
 use Rattle.planning.specs.Runs.{World, Call, grow, add, drop, judge, issue, Step, Run, opened, called, Story, growings, sheet_of}
-use Rattle.planning.specs.Main.{ToldAfter, EntryAfter, Worked, Alike, Stories, ListsOfCalls, HoldsOfRuns}
+use Rattle.planning.specs.Main.{ToldAfter, EntryAfter, Worked, Alike, Stories, ListsOfCalls, HoldsOfRuns, DistanceOfRuns}
 use Rattle.planning.proofs.Invariant.{Inv, fits, length_is, grown, added, dropped, first_inv}
-use Rattle.planning.proofs.Judgements.{judged_well}
+use Rattle.planning.proofs.DistanceLaws.{same_distance}
+use Rattle.planning.proofs.Judgements.{asked_well, judged_well}
 
 module _ (T : Meaning) (R : Says) (ok : Admitted T) (law : Lawful R) (L : ℕ) (last : Settles T R L) (places : ℕ) where
   abbrev Kept : List Call → World → Type 0
@@ -52,6 +53,7 @@ module _ (T : Meaning) (R : Says) (ok : Admitted T) (law : Lawful R) (L : ℕ) (
         places = inv.all_places;
         rounds = sym (length_is inv);
         sheet = inv.sheet;
+        asked = asked_well law inv;
         judged = judged_well law inv;
       }
 
@@ -62,23 +64,23 @@ module _ (T : Meaning) (R : Says) where
   entry_once t p q e e' (inr (out, _)) (inl ((h, l), le)) = absurd (out (layer_up T R e' t p q le h))
   entry_once t p q e e' (inr (_, a)) (inr (_, b)) = a ∙ sym b
 
-  told_once : (l g : ℕ) (d d' : Distance) → ToldAfter T R l g d → ToldAfter T R l g d' → d ≡ d'
-  told_once l g (Told d) (Told d') (is, _) (is', _) = ap Told (lowest_one _ d d' is is')
-  told_once l g (Told d) NoPlan ((h, low), le) (out, lt) = absurd (out (goal_up T R d l (omega arith) h))
-  told_once l g (Told d) (AtLeast k) ((h, low), le) (out, gl, e) = absurd (out (goal_up T R d g (omega arith) h))
-  told_once l g NoPlan (Told d) (out, lt) ((h, low), le) = absurd (out (goal_up T R d l (omega arith) h))
-  told_once l g NoPlan NoPlan h h' = refl
-  told_once l g NoPlan (AtLeast k) (_, lt) (_, gl, _) = absurd (omega arith)
-  told_once l g (AtLeast k) (Told d) (out, gl, e) ((h, low), le) = absurd (out (goal_up T R d g (omega arith) h))
-  told_once l g (AtLeast k) NoPlan (_, gl, _) (_, lt) = absurd (omega arith)
-  told_once l g (AtLeast k) (AtLeast k') (_, _, e) (_, _, e') = ap AtLeast (e ∙ sym e')
+  told_once : (l g : ℕ) (d d' : Distance) → ToldAfter T R l g d → ToldAfter T R l g d' → told d ≡ told d'
+  told_once l g d d' (number x e (is, _)) (number x' e' (is', _)) = let same = lowest_one _ x x' is is' in cc
+  told_once l g d d' (number x _ ((h, low), le)) (none _ (out, lt)) = absurd (out (goal_up T R x l (omega arith) h))
+  told_once l g d d' (number x _ ((h, low), le)) (at_least k _ (out, gl, e)) = absurd (out (goal_up T R x g (omega arith) h))
+  told_once l g d d' (none _ (out, lt)) (number x _ ((h, low), le)) = absurd (out (goal_up T R x l (omega arith) h))
+  told_once l g d d' (none e _) (none e' _) = e ∙ sym e'
+  told_once l g d d' (none _ (_, lt)) (at_least k _ (_, gl, _)) = absurd (omega arith)
+  told_once l g d d' (at_least k _ (out, gl, e)) (number x _ ((h, low), le)) = absurd (out (goal_up T R x g (omega arith) h))
+  told_once l g d d' (at_least k _ (_, gl, _)) (none _ (_, lt)) = absurd (omega arith)
+  told_once l g d d' (at_least k e (_, _, is)) (at_least k' e' (_, _, is')) = cc
 
   told_by : {l k : ℕ} {cs : List Call} {w : World} → Worked T R l k cs w → (rep : Report)
       → Judging T R w.book w.table w.sheet (Ok rep) → ToldAfter T R l (growings cs) rep.distance
   told_by h rep s =
       let (rep', e, j) = h.judged (Ok rep) s in
       let same : rep' ≡ rep = cc in
-      rw same at j.distance
+      rw same at j.distance.exact
 
   alike : {l k k' : ℕ} {cs cs' : List Call} {w w' : World} → Worked T R l k cs w → Worked T R l k' cs' w'
       → growings cs ≡ growings cs' → Alike T R w w'
@@ -94,8 +96,8 @@ module _ (T : Meaning) (R : Says) where
             (rw (← e) at (h'.entries p q lp lq)) in
             rw is at one;
         distance = λ rep rep' s s'.
-            told_once l (growings cs) rep.distance rep'.distance (told_by h rep s)
-            (rw (← e) at (told_by h' rep' s'));
+            same_distance rep.distance rep'.distance
+            (told_once l (growings cs) rep.distance rep'.distance (told_by h rep s) (rw (← e) at (told_by h' rep' s')));
       }
 
 module _ (T : Meaning) (R : Says) (ok : Admitted T) (law : Lawful R) where
@@ -124,6 +126,12 @@ module _ (T : Meaning) (R : Says) (ok : Admitted T) (law : Lawful R) where
         stories = stories;
         answer = λ σ here. (stories.worked σ).judged r (rw here told);
       }
+
+-- an answer of asking for the distance, where the list of calls has led to this book and table
+pub distance_of_runs : (T : Meaning) → Admitted T → (b : Book) (tb : Table) (r : Result Distance Refusal) → Asked T b tb r → DistanceOfRuns T b tb r
+distance_of_runs T ok b tb r told R law σ book table =
+    let all = stories T R ok law in
+    (all.last_layer, all.settles, (all.worked σ).asked r (rw (book, table) told))
 
 pub lists_of_calls : ListsOfCalls
 lists_of_calls = stories

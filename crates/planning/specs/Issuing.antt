@@ -17,7 +17,6 @@ use Rattle.strips.specs.Tasks.{Meaning}
 use Rattle.strips.specs.Rules.{Says}
 use Rattle.strips.specs.Rounds.{Round}
 use Rattle.verdicts.specs.declared.verdict.Verdict.{Verdict}
-use Rattle.verdicts.specs.declared.verdict.Verdict.TheVariants.{Sound}
 use Rattle.verdicts.specs.Verdicts.{IsSound}
 use Rattle.verdicts.specs.Sheets.{rounds_of, VerdictOn}
 use Rattle.reach.specs.Tables.{Table}
@@ -29,7 +28,8 @@ use Rattle.planning.specs.Refusals.{told}
 use Rattle.planning.specs.Calls.{Fits}
 
 abbrev pub SoundSheet : Meaning → Says → Book → Table → List JobSet → Type 0
-SoundSheet T R b tb sh = Fits T b tb × (b.rounds ≤ length sh) × VerdictOn T R (rounds_of T.m b.rounds sh) Sound
+SoundSheet T R b tb sh =
+    Fits T b tb × (b.rounds ≤ length sh) × ((v : Verdict) × VerdictOn T R (rounds_of T.m b.rounds sh) v × IsSound v)
 
 pub data Unsound (T : Meaning) (R : Says) (b : Book) (tb : Table) (sh : List JobSet) (e : Refusal) : Type 0 where
   misfit : (¬ Fits T b tb) ⊎ (length sh < b.rounds) → told e ≡ (9, 0) → Unsound T R b tb sh e

@@ -1,20 +1,25 @@
 -- The theorem on lists of calls.
 --
---   Bounds T R d            what a distance that is told says of every plan
+--   Bounds T R d            what is told of the distance bounds every plan: no plan has fewer rounds than the number
+--                           told, or than the one after `at least`; and there is no plan where none is told
 --   ToldAfter T R L g d     d is what is told after g growings, where L is the first layer that equals its
 --                           next: the distance once a layer that was grown reaches the goal, else none
 --                           once the book is settled, else at least g + 1
 --   Decided d               d is a distance or none
+--   ToldWell T R L g d      what holds of what is told of the distance after g growings
 --   EntryAfter T R t p q e  e is the entry of {p, q} at layer t: its first layer if that is at most t, else
 --                           65,535
 --   JudgedWell              what holds of an answer of judging, after g growings, on the rounds rs
---   Worked T R L k cs w     what holds of a book with its table and its sheet of k places, after the calls cs
+--   Worked T R L k cs w     what holds of a book with its table and its sheet of k places, after the calls cs, and of
+--                           each answer of asking and of judging it
 --   Alike T R w w'          what two lists of calls with equal numbers of growings have in common
 --   Stories T R             what holds of every accepted opening of one task and every list of calls after
 --                           it, under one rule
 --   ListsOfCalls            so it is for every admitted task and every lawful rule
 --   HoldsOfRuns             the same for one task, rule, book, table and sheet and one answer of judging, for
 --                           all lists of calls that lead there
+--   DistanceOfRuns T b tb r  what asking for the distance answers, for all lists of calls under a lawful rule that lead
+--                           to this book and table: it isn't refused, and what is told is so under that rule
 --   IssuedIfPlan T R rs r   what issuing answers of the rounds rs of a list of calls: they are a plan, and the book
 --                           is issued; or they are no plan, and it is refused with 14
 --   IssuedOfRuns            so it is for one task, rule, book, table and sheet and one answer of issuing, for all
@@ -36,38 +41,40 @@ use Rattle.planning.specs.declared.issued.Issued.{Issued}
 use Rattle.planning.specs.declared.issued.NotIssued.{NotIssued}
 use Rattle.planning.specs.declared.refusal.Refusal.{Refusal}
 use Rattle.planning.specs.declared.report.Distance.{Distance}
-use Rattle.planning.specs.declared.report.Distance.TheVariants.{Told, NoPlan, AtLeast}
 use Rattle.planning.specs.declared.report.Report.{Report}
 use Rattle.planning.specs.Refusals.{told}
-use Rattle.planning.specs.Reports.{excess_of, Shortest}
-use Rattle.planning.specs.Calls.{Fits, Judging}
+use Rattle.planning.specs.Reports.{ToldAs, Excess, Shortest}
+use Rattle.planning.specs.Calls.{Fits, Asked, Judging}
 use Rattle.planning.specs.Issuing.{has_job}
 use Rattle.planning.specs.Runs.{World, Call, Story, growings, sheet_of}
 
 abbrev pub Bounds : Meaning → Says → Distance → Type 0
-Bounds T R (Told d) = (rs : List Round) → Plan T R rs → d ≤ length rs
-Bounds T R NoPlan = (rs : List Round) → ¬ Plan T R rs
-Bounds T R (AtLeast k) = (rs : List Round) → Plan T R rs → k ≤ length rs
+Bounds T R d = ToldAs d
+    (λ x. (rs : List Round) → Plan T R rs → x ≤ length rs)
+    ((rs : List Round) → ¬ Plan T R rs)
+    (λ k. (rs : List Round) → Plan T R rs → k ≤ length rs)
 
 abbrev pub ToldAfter : Meaning → Says → ℕ → ℕ → Distance → Type 0
-ToldAfter T R L g (Told d) = IsDistance T R d × (d ≤ min g L)
-ToldAfter T R L g NoPlan = (¬ GoalAt T R L) × (L < g)
-ToldAfter T R L g (AtLeast k) = (¬ GoalAt T R g) × (g ≤ L) × (k ≡ suc g)
+ToldAfter T R L g d = ToldAs d
+    (λ x. IsDistance T R x × (x ≤ min g L))
+    ((¬ GoalAt T R L) × (L < g))
+    (λ k. (¬ GoalAt T R g) × (g ≤ L) × (k ≡ suc g))
 
 abbrev pub Decided : Distance → Type 0
-Decided (Told d) = ⊤
-Decided NoPlan = ⊤
-Decided (AtLeast k) = ⊥
+Decided d = ToldAs d (λ x. ⊤) ⊤ (λ k. ⊥)
 
 abbrev pub EntryAfter : Meaning → Says → ℕ → ℕ → ℕ → ℕ → Type 0
 EntryAfter T R t p q e = (First T R p q e × (e ≤ t)) ⊎ ((¬ Layer T R t p q) × (e ≡ 65535))
 
+pub record ToldWell (T : Meaning) (R : Says) (L g : ℕ) (d : Distance) : Type 0 where
+  pub bounds : Bounds T R d
+  pub exact : ToldAfter T R L g d
+  pub decided : pair_count T.n < g → Decided d
+
 pub record JudgedWell (T : Meaning) (R : Says) (L g : ℕ) (rs : List Round) (rep : Report) : Type 0 where
-  pub bounds : Bounds T R rep.distance
-  pub distance : ToldAfter T R L g rep.distance
-  pub decided : pair_count T.n < g → Decided rep.distance
+  pub distance : ToldWell T R L g rep.distance
   pub rounds : rep.rounds ≡ length rs
-  pub excess : rep.excess ≡ excess_of (length rs) rep.distance
+  pub excess : Excess (length rs) rep.distance rep.excess
   pub verdict : VerdictOn T R rs rep.verdict
   pub shortest : Shortest rep → (others : List Round) → Plan T R others → length rs ≤ length others
 
@@ -79,6 +86,7 @@ pub record Worked (T : Meaning) (R : Says) (L k : ℕ) (cs : List Call) (w : Wor
   pub places : length w.sheet ≡ k
   pub rounds : w.book.rounds ≡ length (sheet_of T.m k cs)
   pub sheet : rounds_of T.m w.book.rounds w.sheet ≡ sheet_of T.m k cs
+  pub asked : (r : Result Distance Refusal) → Asked T w.book w.table r → (d : Distance) × (r ≡ Ok d) × ToldWell T R L (growings cs) d
   pub judged : (r : Result Report Refusal) → Judging T R w.book w.table w.sheet r
       → (rep : Report) × (r ≡ Ok rep) × JudgedWell T R L (growings cs) (sheet_of T.m k cs) rep
 
@@ -103,6 +111,11 @@ pub record HoldsOfRuns (T : Meaning) (R : Says) (b : Book) (tb : Table) (sh : Li
   pub answer : (σ : Story T R) → σ.last ≡ record { book = b; table = tb; sheet = sh }
       → (rep : Report) × (r ≡ Ok rep)
       × JudgedWell T R stories.last_layer (growings σ.calls) (sheet_of T.m (length σ.first.sheet) σ.calls) rep
+
+abbrev pub DistanceOfRuns : Meaning → Book → Table → Result Distance Refusal → Type 0
+DistanceOfRuns T b tb r =
+    (R : Says) → Lawful R → (σ : Story T R) → σ.last.book ≡ b → σ.last.table ≡ tb
+    → (L : ℕ) × Settles T R L × ((d : Distance) × (r ≡ Ok d) × ToldWell T R L (growings σ.calls) d)
 
 abbrev pub IssuedIfPlan : Meaning → Says → List Round → Result Issued NotIssued → Type 0
 IssuedIfPlan T R rs (Ok i) = Plan T R rs

@@ -1,6 +1,6 @@
 //! What judging answers.
-ghost use Rattle.planning.specs.Reports.{excess_of, Shortest, text};
-ghost use Rattle.std.specs.Prelude.{◌≡◌, ◌↔◌, IsTrue, Some};
+ghost use Rattle.planning.specs.Reports.{Excess, Shortest, text};
+ghost use Rattle.std.specs.Prelude.{◌↔◌, IsTrue, Some};
 
 use std::fmt;
 use verdicts::verdict::Verdict;
@@ -30,7 +30,7 @@ pub struct Report {
 impl Distance {
     /// Rounds minus distance, exact, negative too; none while no distance is told.
     pub fn excess(self, rounds: u16) -> Option<i32>
-        ensures { result ≡ excess_of rounds self }
+        ensures { Excess rounds self result }
     {
         match self {
             Distance::Told(distance) => Some(rounds as i32 - distance as i32),
