@@ -10,11 +10,12 @@ use Rattle.reach.specs.Tables.{Table}
 use Rattle.planning.specs.declared.book.Book.{Book}
 use Rattle.planning.specs.declared.refusal.Refusal.{Refusal}
 use Rattle.planning.specs.declared.report.Distance.{Distance}
-use Rattle.planning.specs.declared.report.Distance.TheVariants.{Told, NoPlan, AtLeast}
 use Rattle.planning.specs.declared.report.Report.{Report}
+use Rattle.planning.specs.Reports.{number, none, at_least}
 use Rattle.planning.specs.Calls.{Fits, ToldBy, Judging}
 use Rattle.planning.specs.Runs.{World, Call, Run, opened, called, Story, sheet_of}
 use Rattle.planning.specs.Main.{ToldAfter, Decided, JudgedWell, HoldsOfRuns}
+use Rattle.planning.proofs.DistanceLaws.{decided_not_more}
 use Rattle.planning.proofs.ListsOfCalls.{stories}
 use Rattle.report.specs.Growing.{growths, GrownOut}
 use Rattle.report.specs.Answers.{TrueOf, Answer, AnswersRuns}
@@ -32,22 +33,22 @@ sheet_grown m k (suc n) cs = sheet_grown m k n cs
 module _ (T : Meaning) (R : Says) where
   -- one book tells one thing from one table
   decided_too : (b : Book) (tb : Table) (d d' : Distance) → ToldBy T b tb d → Decided d → ToldBy T b tb d' → Decided d'
-  decided_too b tb d (Told _) _ _ _ = tt
-  decided_too b tb d NoPlan _ _ _ = tt
-  decided_too b tb (Told _) (AtLeast k) (read, _) _ (out, _, _) = out read
-  decided_too b tb NoPlan (AtLeast k) (_, y) _ (_, n, _) = both_ways b.settled n y
-  decided_too b tb (AtLeast _) (AtLeast k) _ h _ = h
+  decided_too b tb d d' _ _ (number x is _) = number x is tt
+  decided_too b tb d d' _ _ (none is _) = none is tt
+  decided_too b tb d d' (number _ _ (read, _)) _ (at_least _ _ (out, _, _)) = absurd (out read)
+  decided_too b tb d d' (none _ (_, y)) _ (at_least _ _ (_, n, _)) = absurd (both_ways b.settled n y)
+  decided_too b tb d d' (at_least k is _) h (at_least _ _ _) = absurd (decided_not_more d k h is)
 
   true_of : (L g : ℕ) → Settles T R L → (d : Distance) → Decided d → ToldAfter T R L g d → TrueOf T R d
-  true_of L g last (Told d) _ (is, _) = is
-  true_of L g last NoPlan _ (out, _) = λ t h. out (λ p q gp gq. last.all t p q (h p q gp gq))
-  true_of L g last (AtLeast k) h _ = h
+  true_of L g last d _ (number x is (first, _)) = number x is first
+  true_of L g last d _ (none is (out, _)) = none is (λ t h. out (λ p q gp gq. last.all t p q (h p q gp gq)))
+  true_of L g last d h (at_least k is _) = absurd (decided_not_more d k h is)
 
   answers : (L g : ℕ) → Settles T R L → (rs : List Round) (rep : Report) → Decided rep.distance → JudgedWell T R L g rs rep → Answer T R rs rep
   answers L g last rs rep decided well = record {
     rounds = well.rounds;
-    distance = true_of L g last rep.distance decided well.distance;
-    bounds = well.bounds;
+    distance = true_of L g last rep.distance decided well.distance.exact;
+    bounds = well.distance.bounds;
     verdict = well.verdict;
     excess = well.excess;
     shortest = well.shortest;

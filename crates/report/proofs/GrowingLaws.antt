@@ -11,8 +11,10 @@ use Rattle.planning.specs.declared.refusal.Refusal.{Refusal}
 use Rattle.planning.specs.declared.report.Distance.{Distance}
 use Rattle.planning.specs.declared.report.Distance.TheVariants.{Told, NoPlan, AtLeast}
 use Rattle.planning.specs.Calls.{Fits, Grew, misfit, no_more, settles, rises, Asked}
+use Rattle.planning.specs.Reports.{number, none}
 use Rattle.planning.specs.Runs.{grow, Run, opened, called}
 use Rattle.planning.specs.Main.{Decided}
+use Rattle.planning.proofs.DistanceLaws.{not_settled}
 use Rattle.report.specs.Growing.{growths, GrownOut, GrownToEnd}
 
 -- how many growings are left at most
@@ -60,10 +62,12 @@ module _ {T : Meaning} {R : Says} {b : Book} {tb : Table} {b₁ : Book} {tb₁ :
   pub once_more : (k : ℕ) (r : Result Unit Refusal) (b₂ : Book) (tb₂ : Table) → Asked T b₁ tb₁ (Ok (AtLeast k)) → Grew T R b₁ tb₁ r b₂ tb₂
       → (left T.n b₂ < left T.n b₁) × SoFar T R b tb b₂ tb₂
   once_more k r b₂ tb₂ (fits, _) (misfit bad _ _ _) = absurd (bad fits)
-  once_more k r b₂ tb₂ (_, (_, s, _)) (no_more _ y _ _ _) = absurd (both_ways b₁.settled s y)
-  once_more k r b₂ tb₂ (f, (_, s, _)) (settles g n why ok bs ts) =
+  once_more k r b₂ tb₂ (_, by) (no_more _ y _ _ _) = absurd (both_ways b₁.settled (not_settled T b₁ tb₁ k by) y)
+  once_more k r b₂ tb₂ (f, by) (settles g n why ok bs ts) =
+      let s = not_settled T b₁ tb₁ k by in
       go_on r b₂ tb₂ f (rw (bs, ts) record { n_is = f.n_is; m_is = f.m_is; room = f.room }) (rw (bs, s) (omega arith)) (settles g n why ok bs ts)
-  once_more k r b₂ tb₂ (f, (_, s, _)) (rises g n lt next ok bs) =
+  once_more k r b₂ tb₂ (f, by) (rises g n lt next ok bs) =
+      let s = not_settled T b₁ tb₁ k by in
       go_on r b₂ tb₂ f (rw bs record { n_is = f.n_is; m_is = f.m_is; room = let room = f.room in let same = next.kept.same_length in omega arith })
       (rw (bs, s) (omega arith)) (rises g n lt next ok bs)
 
@@ -77,9 +81,9 @@ module _ {T : Meaning} {R : Says} {b : Book} {tb : Table} {b₁ : Book} {tb₁ :
   }
     where
       decided : (d : Distance) → ((k : ℕ) → d ≡ AtLeast k → ⊥) → Decided d
-      decided (Told _) _ = tt
-      decided NoPlan _ = tt
-      decided (AtLeast k) out = out k refl
+      decided (Told x) _ = number x refl tt
+      decided NoPlan _ = none refl tt
+      decided (AtLeast k) out = absurd (out k refl)
 
   -- asking is refused only at the beginning
   pub asking_refused : (e : Refusal) → Asked T b₁ tb₁ (Err e) → GrownToEnd T R b tb (Err e) b₁ tb₁
@@ -91,6 +95,6 @@ module _ {T : Meaning} {R : Says} {b : Book} {tb : Table} {b₁ : Book} {tb₁ :
 pub growing_accepted : (T : Meaning) (R : Says) (b : Book) (tb : Table) (k : ℕ) (e : Refusal) (b' : Book) (tb' : Table)
     → Asked T b tb (Ok (AtLeast k)) → Grew T R b tb (Err e) b' tb' → ⊥
 growing_accepted T R b tb k e b' tb' (f, _) (misfit bad _ _ _) = bad f
-growing_accepted T R b tb k e b' tb' (_, (_, s, _)) (no_more _ y _ _ _) = both_ways b.settled s y
+growing_accepted T R b tb k e b' tb' (_, by) (no_more _ y _ _ _) = both_ways b.settled (not_settled T b tb k by) y
 growing_accepted T R b tb k e b' tb' _ (settles _ _ _ ok _ _) = cc
 growing_accepted T R b tb k e b' tb' _ (rises _ _ _ _ ok _) = cc

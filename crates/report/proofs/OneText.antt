@@ -21,10 +21,11 @@ use Rattle.verdicts.specs.Verdicts.{told as words}
 use Rattle.planning.specs.declared.book.Book.{Book}
 use Rattle.planning.specs.declared.refusal.Refusal.{Refusal}
 use Rattle.planning.specs.declared.report.Distance.{Distance}
-use Rattle.planning.specs.declared.report.Distance.TheVariants.{Told, NoPlan, AtLeast}
 use Rattle.planning.specs.declared.report.Report.{Report}
 use Rattle.planning.specs.Refusals.{told}
+use Rattle.planning.specs.Reports.{told as distance_told, number, none, at_least}
 use Rattle.planning.specs.Adding.{free}
+use Rattle.planning.proofs.DistanceLaws.{same_distance, one_excess}
 use Rattle.files.specs.SheetFiles.{sheet_bytes, RoundsFit, faulty, FirstSheetFault}
 use Rattle.files.proofs.TaskLaws.{one_task, not_at_fault}
 use Rattle.files.proofs.SheetLaws.{one_list, refused_exactly}
@@ -60,7 +61,7 @@ no_task tf T e (small, _) (inl (large, _)) = omega arith
 no_task tf T e (_, (h, rows, file, _)) (inr (_, first)) = not_at_fault h rows tf file 255 (told e).0 (told e).1 h.limits.2 first
 
 same_numbers : (c p c' p' : ℕ) → (c ≡ c') × (p ≡ p') → ◌≡◌ {A = ℕ × ℕ} (c, p) (c', p')
-same_numbers c p c' p' (number, place) = cc
+same_numbers c p c' p' (own, place) = cc
 
 task_refused_once : (tf : List ℕ) (e e' : Refusal) → TaskRefused tf e → TaskRefused tf e' → told e ≡ told e'
 task_refused_once tf e e' (inl (_, is)) (inl (_, is')) = is ∙ sym is'
@@ -118,21 +119,21 @@ unfolding report
 report_is rep = refl
 
 module _ (T : Meaning) (R : Says) where
-  one_distance : (d d' : Distance) → TrueOf T R d → TrueOf T R d' → d ≡ d'
-  one_distance (Told d) (Told d') is is' = ap Told (lowest_one _ d d' is is')
-  one_distance (Told d) NoPlan (at, _) none = absurd (none d at)
-  one_distance NoPlan (Told d) none (at, _) = absurd (none d at)
-  one_distance NoPlan NoPlan _ _ = refl
-  one_distance (AtLeast _) _ wrong _ = absurd wrong
-  one_distance _ (AtLeast _) _ wrong = absurd wrong
+  one_distance : (d d' : Distance) → TrueOf T R d → TrueOf T R d' → distance_told d ≡ distance_told d'
+  one_distance d d' (number x e is) (number x' e' is') = let same = lowest_one _ x x' is is' in cc
+  one_distance d d' (number x _ (at, _)) (none _ never) = absurd (never x at)
+  one_distance d d' (none _ never) (number x _ (at, _)) = absurd (never x at)
+  one_distance d d' (none e _) (none e' _) = e ∙ sym e'
+  one_distance d d' (at_least _ _ wrong) _ = absurd wrong
+  one_distance d d' _ (at_least _ _ wrong) = absurd wrong
 
   -- rounds have one answer
   one_answer : (rs : List Round) (rep rep' : Report) → Answer T R rs rep → Answer T R rs rep' → rep ≡ rep'
   one_answer rs rep rep' a a' =
       let rounds : rep.rounds ≡ rep'.rounds = a.rounds ∙ sym a'.rounds in
-      let distance : rep.distance ≡ rep'.distance = one_distance rep.distance rep'.distance a.distance a'.distance in
+      let distance : rep.distance ≡ rep'.distance = same_distance _ _ (one_distance rep.distance rep'.distance a.distance a'.distance) in
       let verdict : rep.verdict ≡ rep'.verdict = same_verdict _ _ (a'.verdict.only rep.verdict a.verdict.first_fault) in
-      let excess : rep.excess ≡ rep'.excess = (let x = a.excess in let y = a'.excess in cc) in
+      let excess : rep.excess ≡ rep'.excess = one_excess rep.distance (length rs) _ _ a.excess (rw (← distance) at a'.excess) in
       let is = report_is rep in
       let is' = report_is rep' in
       cc

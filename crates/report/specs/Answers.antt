@@ -17,23 +17,20 @@ use Rattle.reach.specs.Tables.{Table}
 use Rattle.planning.specs.declared.book.Book.{Book}
 use Rattle.planning.specs.declared.refusal.Refusal.{Refusal}
 use Rattle.planning.specs.declared.report.Distance.{Distance}
-use Rattle.planning.specs.declared.report.Distance.TheVariants.{Told, NoPlan, AtLeast}
 use Rattle.planning.specs.declared.report.Report.{Report}
-use Rattle.planning.specs.Reports.{excess_of, Shortest}
+use Rattle.planning.specs.Reports.{ToldAs, Excess, Shortest}
 use Rattle.planning.specs.Runs.{Story, sheet_of}
 use Rattle.planning.specs.Main.{Bounds}
 
 abbrev pub TrueOf : Meaning → Says → Distance → Type 0
-TrueOf T R (Told d) = IsDistance T R d
-TrueOf T R NoPlan = (t : ℕ) → ¬ GoalAt T R t
-TrueOf T R (AtLeast k) = ⊥
+TrueOf T R d = ToldAs d (IsDistance T R) ((t : ℕ) → ¬ GoalAt T R t) (λ k. ⊥)
 
 pub record Answer (T : Meaning) (R : Says) (rs : List Round) (rep : Report) : Type 0 where
   pub rounds : rep.rounds ≡ length rs
   pub distance : TrueOf T R rep.distance
   pub bounds : Bounds T R rep.distance
   pub verdict : VerdictOn T R rs rep.verdict
-  pub excess : rep.excess ≡ excess_of (length rs) rep.distance
+  pub excess : Excess (length rs) rep.distance rep.excess
   pub shortest : Shortest rep → (others : List Round) → Plan T R others → length rs ≤ length others
 
 abbrev pub AnswersRuns : Meaning → Says → Book → Table → List JobSet → Result Report Refusal → Type 0

@@ -13,8 +13,8 @@ use strips::task::Task;
 /// Grows the table under apart until a distance or none is told, and judges the sheet.
 ///
 /// Where the book, the table and the sheet come from an accepted opening of this task and any list of growings under
-/// apart, addings, droppings and judgings after it, this isn't refused, and what is answered is true of the
-/// task and of the rounds that the list gives.
+/// apart, addings, droppings, judgings and issuings after it, where an issuing that isn't refused is followed by
+/// reopening, this isn't refused, and what is answered is true of the task and of the rounds that the list gives.
 pub(crate) fn answer<S: Task>(
     task: &S,
     mut book: Book,

@@ -58,11 +58,15 @@ fn judge_plan<S: Task>(
 }
 
 /// Loads the task file, reads the sheet file, grows the table until a distance or none is told, and judges, all under
-/// apart. What the report says is true of the task and of the rounds that the two files have.
+/// apart. Neither file is written, and rows, table and sheet are the call's own.
 ///
-/// The task file is refused before the sheet file is looked at. Each is refused with 1, place 60,000, if it has more
-/// than 60,000 bytes, before anything of it is read; else as `load` refuses it where 255 rows are supplied, or as
-/// `read_sheet` does where 500 places are and none is in use.
+/// The report, where both files are accepted, is that of the task and of the rounds that the two files have: how many
+/// rounds there are; the distance, which is the first layer that reaches the goal, or none where no layer does, and
+/// never "at least"; the verdict on the rounds; and rounds minus distance, absent where the distance is none.
+///
+/// Else a refusal, `Task` or `Plan` by whose it is. The task file is refused before the sheet file is looked at. Each is
+/// refused with 1, place 60,000, if it has more than 60,000 bytes, before anything of it is read; else as `load` refuses
+/// it where 255 rows are supplied, or as `read_sheet` does where 500 places are and none is in use.
 pub fn judge_files(task_file: &[u8], plan_file: &[u8]) -> Result<Report, Refused>
     ensures { FilesAnswered task_file.now plan_file.now result }
 {
