@@ -84,13 +84,17 @@ pub extern "C" fn lekhnop_report(
 /// times, or until a growing settles the book if that comes sooner. `grown` is written, and its old value isn't read.
 ///
 /// The piles are 0, none; 1, withheld; 2, moved start; 3, withheld over moved start; from 4 up, moved start over
-/// withheld; over the loaded task, with these jobs withheld and the start moved to these facts. The rules are 0, apart;
-/// 1, single file; from 2 up, zoned.
+/// withheld; over the loaded task, with these jobs withheld and the start moved to these facts. Both lists are in any
+/// order, and a number may stand there more than once; job numbers from `m` up and facts from `n` up don't count, and a
+/// list whose layer isn't in the pile isn't used. The rules are 0, apart; 1, single file; from 2 up, zoned.
 ///
-/// Where the file is refused as `load` refuses it with 255 rows, or with 9, place 0, because there are fewer entries
-/// than n(n+1)/2, that is told, and the table is as before. Else the book's layer is told and whether it is settled,
-/// and the table's first n(n+1)/2 entries are those of that layer: each is the first layer of its pair, or 65,535
-/// where the pair isn't in the book's layer; the entries behind them are as before.
+/// First the file is refused as `load` refuses it with 255 rows, whatever its size; else the table is refused with 9,
+/// place 0, if there are fewer entries than n(n+1)/2. Then the number and the place of that one refusal are told, `settled`
+/// is false, `layer` is 0, and the table is as before.
+///
+/// Else `number` and `place` are 0, the book's layer is told and whether it is settled, and the table's first n(n+1)/2
+/// entries are those of that layer: each is the first layer of its pair, or 65,535 where the pair isn't in the book's
+/// layer; the entries behind them are as before. Nothing else is written.
 #[unsafe(no_mangle)]
 pub extern "C" fn lekhnop_table(
     task_file: &[u8],
