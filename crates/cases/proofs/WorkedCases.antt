@@ -16,6 +16,7 @@ use Rattle.reach.specs.Tables.{Table}
 use Rattle.planning.specs.declared.report.Distance.TheVariants.{Told, NoPlan, AtLeast}
 use Rattle.verdicts.specs.declared.verdict.Verdict.TheVariants.{Closed, Clash, Missing, Goal, Sound}
 use Rattle.verdicts.specs.Judging.{Judged}
+use Rattle.planning.specs.Reports.{number, none, at_least}
 use Rattle.cases.specs.Counts.{lift_jobs, lift, lift_without_3, lift_from_1_4, twin_jobs, twin, sheet}
 use Rattle.cases.specs.WorkedCases.{After, SettledAfter, Entry, WorkedCases}
 use Rattle.cases.proofs.Tests.{admitted_is}
@@ -99,29 +100,29 @@ twin_single_settles = settles twin single_file twin_single_table twin_admitted s
 -- what is told of the distance
 lift_told : SettledAfter lift apart 5 (Told 4)
 unfolding has bit any entry_number pair_count
-lift_told = (4, lift_settles, lit≤ tt, (distance lift apart lift_table lift_admitted apart_lawful 4 lift_tested 4 (lit≤ tt) refl, lit≤ tt))
+lift_told = (4, lift_settles, lit≤ tt, number 4 refl (distance lift apart lift_table lift_admitted apart_lawful 4 lift_tested 4 (lit≤ tt) refl, lit≤ tt))
 
 lift_told_3 : After lift apart 3 (AtLeast 4)
 unfolding has bit any entry_number pair_count
-lift_told_3 = (4, lift_settles, (not_reached lift apart lift_table lift_admitted apart_lawful 4 lift_tested 3 (lit≤ tt) refl, lit≤ tt, refl))
+lift_told_3 = (4, lift_settles, at_least 4 refl (not_reached lift apart lift_table lift_admitted apart_lawful 4 lift_tested 3 (lit≤ tt) refl, lit≤ tt, refl))
 
 without_3_told : SettledAfter lift_without_3 apart 4 NoPlan
 unfolding has bit any entry_number pair_count
 without_3_told =
-    (3, without_3_settles, lit≤ tt, (not_reached lift_without_3 apart without_3_table without_3_admitted apart_lawful 3 without_3_tested 3 (lit≤ tt) refl, lit≤ tt))
+    (3, without_3_settles, lit≤ tt, none refl (not_reached lift_without_3 apart without_3_table without_3_admitted apart_lawful 3 without_3_tested 3 (lit≤ tt) refl, lit≤ tt))
 
 from_1_4_told : SettledAfter lift_from_1_4 apart 2 (Told 1)
 unfolding has bit any entry_number pair_count
-from_1_4_told = (1, from_1_4_settles, lit≤ tt, (distance lift_from_1_4 apart from_1_4_table from_1_4_admitted apart_lawful 1 from_1_4_tested 1 (lit≤ tt) refl, lit≤ tt))
+from_1_4_told = (1, from_1_4_settles, lit≤ tt, number 1 refl (distance lift_from_1_4 apart from_1_4_table from_1_4_admitted apart_lawful 1 from_1_4_tested 1 (lit≤ tt) refl, lit≤ tt))
 
 twin_told : SettledAfter twin apart 2 (Told 1)
 unfolding has bit any entry_number pair_count
-twin_told = (1, twin_settles, lit≤ tt, (distance twin apart twin_table twin_admitted apart_lawful 1 twin_tested 1 (lit≤ tt) refl, lit≤ tt))
+twin_told = (1, twin_settles, lit≤ tt, number 1 refl (distance twin apart twin_table twin_admitted apart_lawful 1 twin_tested 1 (lit≤ tt) refl, lit≤ tt))
 
 twin_single_told : SettledAfter twin single_file 3 (Told 2)
 unfolding has bit any entry_number pair_count
 twin_single_told =
-    (2, twin_single_settles, lit≤ tt, (distance twin single_file twin_single_table twin_admitted single_file_lawful 2 twin_single_tested 2 (lit≤ tt) refl, lit≤ tt))
+    (2, twin_single_settles, lit≤ tt, number 2 refl (distance twin single_file twin_single_table twin_admitted single_file_lawful 2 twin_single_tested 2 (lit≤ tt) refl, lit≤ tt))
 
 -- entries of the lift
 entry_7 : (entry_number 1 3 ≡ 7) × Entry lift apart 5 1 3 2
@@ -163,18 +164,19 @@ twin_clash = verdict_is twin single_file twin_admitted single_file_lawful ((0 �
 
 pub worked_cases : WorkedCases
 worked_cases = record {
+  admitted = (lift_admitted, without_3_admitted, from_1_4_admitted, twin_admitted);
   lift_settles = lift_settles;
   lift_distance = lift_told;
   lift_after_three = lift_told_3;
   lift_entry_7 = entry_7;
   lift_entry_8 = entry_8;
-  lift_0_1_2_3 = record { rounds = refl; verdict = lift_sound; distance = lift_told; excess = refl };
+  lift_0_1_2_3 = record { rounds = refl; verdict = lift_sound; distance = lift_told; excess = number 4 refl refl };
   lift_0_1_2_3_shortest = (refl, refl);
-  lift_01 = record { rounds = refl; verdict = lift_clash; distance = lift_told; excess = refl };
-  lift_0_2 = record { rounds = refl; verdict = lift_missing; distance = lift_told; excess = refl };
-  lift_0_1_2 = record { rounds = refl; verdict = lift_goal; distance = lift_told; excess = refl };
-  without_3 = record { rounds = refl; verdict = without_3_closed; distance = without_3_told; excess = refl };
+  lift_01 = record { rounds = refl; verdict = lift_clash; distance = lift_told; excess = number 4 refl refl };
+  lift_0_2 = record { rounds = refl; verdict = lift_missing; distance = lift_told; excess = number 4 refl refl };
+  lift_0_1_2 = record { rounds = refl; verdict = lift_goal; distance = lift_told; excess = number 4 refl refl };
+  without_3 = record { rounds = refl; verdict = without_3_closed; distance = without_3_told; excess = none refl refl };
   from_1_4 = from_1_4_told;
-  twin_apart = record { rounds = refl; verdict = twin_sound; distance = twin_told; excess = refl };
-  twin_single_file = record { rounds = refl; verdict = twin_clash; distance = twin_single_told; excess = refl };
+  twin_apart = record { rounds = refl; verdict = twin_sound; distance = twin_told; excess = number 1 refl refl };
+  twin_single_file = record { rounds = refl; verdict = twin_clash; distance = twin_single_told; excess = number 2 refl refl };
 }

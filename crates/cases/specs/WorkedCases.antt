@@ -5,11 +5,12 @@
 --   Entry T R g p q e       the book is settled after g growings, and e is the entry of {p, q}
 --   Answer T R g rs rep     it is settled, and rep is what judging answers on the rounds rs
 --   report r v d e          the report of r rounds with this verdict, distance and excess
---   WorkedCases             the cases
+--   WorkedCases             the cases; and that their four tasks are admitted, so that the theorem on lists of calls is
+--                           true of them
 use Rattle.std.specs.Prelude.{◌≡◌, ℕ, ◌<◌, min, List, [], ◌∷◌, length, ℤ, pos, negsuc, Some, None, Option}
 use Rattle.strips.specs.Rounds.{Round}
 use Rattle.strips.specs.Rules.{Says, apart, single_file}
-use Rattle.strips.specs.Tasks.{Meaning}
+use Rattle.strips.specs.Tasks.{Meaning, Admitted}
 use Rattle.verdicts.specs.declared.verdict.Verdict.{Verdict}
 use Rattle.verdicts.specs.declared.verdict.Verdict.TheVariants.{Closed, Clash, Missing, Goal, Sound}
 use Rattle.verdicts.specs.Judging.{Judged}
@@ -19,7 +20,7 @@ use Rattle.planning.specs.declared.report.Distance.{Distance}
 use Rattle.planning.specs.declared.report.Distance.TheVariants.{Told, NoPlan, AtLeast}
 use Rattle.planning.specs.declared.report.Report.{Report}
 use Rattle.planning.specs.Main.{ToldAfter, EntryAfter}
-use Rattle.planning.specs.Reports.{excess_of, Shortest}
+use Rattle.planning.specs.Reports.{Excess, Shortest}
 use Rattle.cases.specs.Counts.{lift, lift_without_3, lift_from_1_4, twin, sheet}
 
 abbrev pub After : Meaning → Says → ℕ → Distance → Type 0
@@ -35,12 +36,13 @@ pub record Answer (T : Meaning) (R : Says) (g : ℕ) (rs : List Round) (rep : Re
   pub rounds : rep.rounds ≡ length rs
   pub verdict : Judged T R rs rep.verdict
   pub distance : SettledAfter T R g rep.distance
-  pub excess : rep.excess ≡ excess_of (length rs) rep.distance
+  pub excess : Excess (length rs) rep.distance rep.excess
 
 abbrev pub report : ℕ → Verdict → Distance → Option ℤ → Report
 report r v d e = record { rounds = r; verdict = v; distance = d; excess = e }
 
 pub record WorkedCases : Type 0 where
+  pub admitted : Admitted lift × Admitted lift_without_3 × Admitted lift_from_1_4 × Admitted twin
   -- the fifth growing settles: layer 4 is the first that equals its next
   pub lift_settles : Settles lift apart 4
   pub lift_distance : SettledAfter lift apart 5 (Told 4)
