@@ -16,6 +16,8 @@ mod sheet_files;
 #[cfg(test)]
 mod task_files;
 #[cfg(test)]
+mod texts;
+#[cfg(test)]
 mod twin;
 #[cfg(test)]
 mod work;
