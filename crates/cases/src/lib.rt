@@ -8,7 +8,11 @@ mod issuing;
 #[cfg(test)]
 mod lift;
 #[cfg(test)]
+mod list_of_calls;
+#[cfg(test)]
 mod parcels;
+#[cfg(test)]
+mod piles;
 #[cfg(test)]
 mod reports;
 #[cfg(test)]

@@ -22,7 +22,7 @@ fn row(needs: &[u8], adds: u8, deletes: u8) -> Row {
     }
 }
 
-fn rows() -> [Row; 4] {
+pub fn rows() -> [Row; 4] {
     [
         row(&[0, 2], 3, 2),
         row(&[0], 1, 0),
@@ -32,7 +32,7 @@ fn rows() -> [Row; 4] {
 }
 
 /// The lift count, answered from these rows.
-fn lift(rows: &[Row]) -> Result<Loaded<'_>, Fail> {
+pub fn lift(rows: &[Row]) -> Result<Loaded<'_>, Fail> {
     let header = Header::new(5, 4, FactSet::of(&[0, 2]), FactSet::of(&[0, 4]))?;
     Ok(Loaded { header, rows })
 }
