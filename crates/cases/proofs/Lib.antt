@@ -3,3 +3,4 @@ mod Makes
 mod Tables
 mod Sheets
 mod WorkedCases
+mod RailSets

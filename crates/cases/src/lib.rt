@@ -10,6 +10,8 @@ mod lift;
 #[cfg(test)]
 mod list_of_calls;
 #[cfg(test)]
+mod own;
+#[cfg(test)]
 mod parcels;
 #[cfg(test)]
 mod piles;
