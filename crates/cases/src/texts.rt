@@ -16,6 +16,16 @@ fn prints<T: Display>(rt: &(impl Abort + AllocGlobal), value: &T, text: &str) ->
 }
 
 #[test]
+fn errors_below_the_book_tell_two_numbers(rt: HostRuntime) {
+    let (entries, facts, places, rounds) = (9, 4, 3, 4);
+    assert_eq!(rt; HeaderFault::FactCount.told(), (4, 0));
+    assert_eq!(rt; HeaderFault::StartFact(7).told(), (5, 0));
+    assert_eq!(rt; HeaderFault::GoalFact(7).told(), (5, 0));
+    assert_eq!(rt; ShortTable { entries, facts }.told(), (9, 0));
+    assert_eq!(rt; ShortSheet { places, rounds }.told(), (9, 0));
+}
+
+#[test]
 fn errors_below_the_book(rt: HostRuntime) -> Result<(), Fail> {
     prints(
         &rt,

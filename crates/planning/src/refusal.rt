@@ -1,7 +1,8 @@
 //! Refusals: two numbers, the refusal's own and its place.
-ghost use Rattle.planning.specs.Refusals.{number, text};
-ghost use Rattle.planning.specs.declared.refusal.Cause.TheVariants.{Misfit};
+ghost use Rattle.planning.specs.Refusals.{number, told, text};
+ghost use Rattle.reach.specs.Tables.{told as table_told};
 ghost use Rattle.std.specs.Prelude.{◌≡◌, Some};
+ghost use Rattle.verdicts.specs.Sheets.{told as sheet_told};
 
 use reach::table::ShortTable;
 use std::error::Error;
@@ -85,18 +86,18 @@ impl From<Cause> for Refusal {
 }
 
 // Once for each error: a `From` over both would need a trait for the two.
-/// A table that is too short isn't the book's.
+/// A table that is too short isn't the book's: the refusal has the two numbers that the error tells.
 impl From<ShortTable> for Refusal {
-    ghost from_gives = { λ _ refusal. refusal ≡ record { cause = Misfit; place = 0 } };
+    ghost from_gives = { λ table refusal. told refusal ≡ table_told table };
 
     fn from(_table: ShortTable) -> Refusal {
         Cause::Misfit.into()
     }
 }
 
-/// A sheet that is too short isn't the book's.
+/// A sheet that is too short isn't the book's: the refusal has the two numbers that the error tells.
 impl From<ShortSheet> for Refusal {
-    ghost from_gives = { λ _ refusal. refusal ≡ record { cause = Misfit; place = 0 } };
+    ghost from_gives = { λ sheet refusal. told refusal ≡ sheet_told sheet };
 
     fn from(_sheet: ShortSheet) -> Refusal {
         Cause::Misfit.into()
