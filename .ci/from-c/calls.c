@@ -12,6 +12,11 @@
 
 #include "lekhnop.h"
 
+_Static_assert(offsetof(struct grown, number) == 0, "number comes first");
+_Static_assert(offsetof(struct grown, settled) == 1, "settled comes second");
+_Static_assert(offsetof(struct grown, layer) == 2, "layer comes third");
+_Static_assert(offsetof(struct grown, place) == 8 && sizeof(struct grown) == 16, "place comes last");
+
 struct bytes {
     const uint8_t *first;
     size_t count;
