@@ -1,4 +1,5 @@
--- A task and a rule that aren't the library's: what they mean, and why the task is admitted and the rule lawful.
+-- A named task and a rule that aren't the library's: what they mean, and why the task is admitted, its names are names,
+-- and the rule is lawful.
 --
 --   facts_by n p       the facts below n that pass the test p
 --   at_end k f         place f is the last of a rail, of two with k places each
@@ -6,8 +7,9 @@
 --   rails k            two rails of k places, numbered from 0 along the one and on along the other, with a trolley
 --                      at the first place of each, which is to get to the last. Fact f says that one stands at
 --                      place f; job f moves it on, and is absent at the last place of a rail
+--   rail_names k       each number of the two rails has the name of its rail, A or B
 --   spread             yes exactly if apart says so and the zones differ, where 0 is a zone like the others
-use Rattle.std.specs.Prelude.{◌≡◌, ℕ, ◌+◌, ◌-◌, ◌*◌, ◌%◌, ◌≤◌, Bool, true, false, cond, not, ◌&&◌, ◌||◌, ◌==◌, nat_lt, if◌then◌else◌, Some, None, Option, refl}
+use Rattle.std.specs.Prelude.{◌≡◌, ℕ, ◌+◌, ◌-◌, ◌*◌, ◌%◌, ◌≤◌, Bool, true, false, cond, not, ◌&&◌, ◌||◌, ◌==◌, nat_lt, if◌then◌else◌, [], codes, Some, None, Option, refl}
 use Rattle.std.proofs.Common.{sym, ap, ap₂, subst, ◌∙◌, inl, inr, lit≤}
 use Rattle.std.proofs.Math.Nat.{le_trans, le_refl, not-suc-le_self}
 use Rattle.std.proofs.Math.Numerals.{suc-eq-add-one}
@@ -21,6 +23,7 @@ use Rattle.strips.specs.declared.job.Job.{Job}
 use Rattle.strips.specs.JobLaws.{apart_lawful}
 use Rattle.strips.specs.Rules.{Says, Lawful, apart}
 use Rattle.strips.specs.Tasks.{Meaning, Below, Fair, Admitted}
+use Rattle.pages.specs.Names.{Names, IsName, Naming}
 
 abbrev pub facts_by : ℕ → (ℕ → Bool) → FactSet
 facts_by n p = set_of (λ f. nat_lt f n && p f)
@@ -44,6 +47,9 @@ rails k = record {
   goal = facts_by (2 * k) (at_end k);
   job = λ f. if nat_lt f (2 * k) && not (at_end k f) then Some (move k f) else None;
 }
+
+abbrev pub rail_names : ℕ → Names
+rail_names k j = if nat_lt j (2 * k) then (if nat_lt j k then codes "A" else codes "B") else []
 
 abbrev pub spread : Says
 spread a b = apart a b && not (a.zone == b.zone)
@@ -86,6 +92,17 @@ rails_admitted k some few = record {
     gone : (b x : Bool) (o : Option Job) → b ≡ false → cond (b && x) o None ≡ None
     gone true x o e = absurd (both_ways true e refl)
     gone false x o e = refl
+
+pub rails_named : (k : ℕ) → Naming (2 * k) (rail_names k)
+rails_named k = record {
+  named = λ j. each (nat_lt j (2 * k)) (nat_lt j k);
+  unnamed = λ j le. ap (λ (b : Bool). cond b (if nat_lt j k then codes "A" else codes "B") []) (le-ltb j (2 * k) le);
+}
+  where
+    each : (b c : Bool) → IsName (cond b (cond c (codes "A") (codes "B")) [])
+    each true true = (lit≤ tt, ((lit≤ tt, lit≤ tt), tt))
+    each true false = (lit≤ tt, ((lit≤ tt, lit≤ tt), tt))
+    each false c = (lit≤ tt, tt)
 
 zones_swap : (a b : Job) → (a.zone == b.zone) ≡ (b.zone == a.zone)
 zones_swap a b = same_from_decides _ _ (Decides-eqb a.zone b.zone) (Decides-like (b.zone == a.zone) sym sym (Decides-eqb b.zone a.zone))

@@ -1,17 +1,12 @@
 //! Issuing a book, asking an issued one and reopening it, on the twin count.
 use crate::twin::{rows, twin};
-use crate::work::{add_all, refused};
+use crate::work::{add_all, issue_all, issued, refused};
 use planning::book::Book;
 use planning::issued::{Issued, NotIssued};
 use sets::jobs::JobSet;
 use std::process::Abort;
 use std::test::Fail;
 use strips::rules::{Apart, SingleFile};
-
-/// The issued book.
-fn issued(answer: Result<Issued, NotIssued>) -> Result<Issued, Fail> {
-    answer.map_err(|_| Fail::new("not issued"))
-}
 
 /// The book that comes back where issuing is refused with this number, place 0.
 fn returned(rt: &impl Abort, answer: Result<Issued, NotIssued>, number: u8) -> Result<Book, Fail> {
@@ -26,11 +21,8 @@ fn returned(rt: &impl Abort, answer: Result<Issued, NotIssued>, number: u8) -> R
 fn an_issued_book_tells_its_jobs(rt: HostRuntime) -> Result<(), Fail> {
     let rows = rows(0);
     let twin = twin(&rows)?;
-    let mut table = [0; 10];
     let mut sheet = [JobSet::of(&[0, 7]); 3];
-    let mut book = Book::open(&twin, &mut table)?;
-    add_all(&mut book, &mut sheet, &[&[0, 1], &[]])?;
-    let issued = issued(book.issue(&twin, &Apart, &table, &sheet))?;
+    let issued = issue_all(&twin, &Apart, &mut sheet, &[&[0, 1], &[]])?;
     assert_eq!(rt; issued.has_job(&sheet, 0, 1)?, true);
     assert_eq!(rt; issued.has_job(&sheet, 1, 1)?, false);
     // Round 2 is beyond the sheet, though its place has job 0; job 7 is no job.

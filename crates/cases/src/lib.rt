@@ -10,11 +10,15 @@ mod lift;
 #[cfg(test)]
 mod list_of_calls;
 #[cfg(test)]
+mod names_files;
+#[cfg(test)]
 mod own;
 #[cfg(test)]
 mod parcels;
 #[cfg(test)]
 mod piles;
+#[cfg(test)]
+mod printing;
 #[cfg(test)]
 mod reports;
 #[cfg(test)]

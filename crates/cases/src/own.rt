@@ -1,11 +1,12 @@
-//! A task and a rule that aren't the library's, and a book worked through a list of calls with them.
+//! A named task and a rule that aren't the library's: a book worked through a list of calls with them, and a page.
 mod rails;
 mod spread;
 
 use crate::list_of_calls::{Call, Under};
 use crate::own::rails::Rails;
 use crate::own::spread::Spread;
-use crate::work::grown;
+use crate::printing::prints;
+use crate::work::{grown, issue_all};
 use planning::report::Distance;
 use sets::jobs::JobSet;
 use std::process::Abort;
@@ -106,4 +107,18 @@ fn spread_is_a_rule_of_its_own(rt: HostRuntime) -> Result<(), Fail> {
     tells(&rt, &Zoned, 3, "goal 2")?;
     tells(&rt, &Spread, 3, "clash 0 0 3")?;
     tells(&rt, &SingleFile, 4, "clash 0 0 3")
+}
+
+#[test]
+fn a_page_with_names_of_its_own(rt: HostRuntime) -> Result<(), Fail> {
+    let task = Rails::of_three();
+    let mut sheet = [JobSet::empty(); 3];
+    let issued = issue_all(&task, &Spread, &mut sheet, &[&[0], &[1, 3], &[4]])?;
+    let lines = [
+        *b"  0   0 A               \n",
+        *b"  1   1 A               \n",
+        *b"  1   3 B               \n",
+        *b"  2   4 B               \n",
+    ];
+    prints(&rt, &issued, &task, &sheet, &lines)
 }

@@ -1,6 +1,8 @@
-//! The bytes that are printed for two files.
+//! The bytes that are printed for two files, and for three.
+use crate::names_files::LIFT_NAMES;
+use crate::printing::PAGE;
 use crate::task_files::LIFT;
-use report::text::report_text;
+use report::text::{page_text, report_text};
 use std::process::Abort;
 use std::test::Fail;
 
@@ -57,4 +59,57 @@ fn a_file_has_up_to_60000_bytes(rt: HostRuntime) -> Result<(), Fail> {
     let text = report_text(rt.alloc(), &long[..60000], &long)?;
     assert_eq!(rt; text.as_str(), "task refused 2 0\n");
     Ok(())
+}
+
+/// Passes if these bytes are printed for the three files.
+fn prints_page(
+    rt: &(impl Abort + AllocGlobal),
+    task: &[u8],
+    plan: &[u8],
+    names: &[u8],
+    bytes: &[u8],
+) -> Result<(), Fail> {
+    let page = page_text(rt.alloc(), task, plan, names)?;
+    assert_eq!(rt; page.as_slice(), bytes);
+    Ok(())
+}
+
+/// The file of a plan of the lift count, with a pause.
+const PAUSED: &[u8] = b"RD\x01\x00RD\x01\x01RD\x00RD\x01\x02RD\x01\x03";
+
+#[test]
+fn pages_of_the_lift(rt: HostRuntime) -> Result<(), Fail> {
+    prints_page(&rt, LIFT, PAUSED, LIFT_NAMES, PAGE.as_flattened())?;
+    let nameless = [
+        *b"  0   0                 \n",
+        *b"  1   1                 \n",
+        *b"  2   -                 \n",
+        *b"  3   2                 \n",
+        *b"  4   3                 \n",
+    ];
+    prints_page(&rt, LIFT, PAUSED, b"", nameless.as_flattened())
+}
+
+#[test]
+fn the_task_comes_before_the_plan_and_the_plan_before_the_names(
+    rt: HostRuntime,
+) -> Result<(), Fail> {
+    let unsound = b"RD\x02\x00\x01";
+    prints_page(&rt, b"TK", b"TK", b"TK\x00", b"task refused 1 0\n")?;
+    prints_page(&rt, LIFT, b"RD\x01\x04", b"TK\x00", b"plan refused 10 0\n")?;
+    prints_page(&rt, LIFT, unsound, b"TK\x00", b"names refused 2 0\n")?;
+    prints_page(
+        &rt,
+        LIFT,
+        unsound,
+        LIFT_NAMES,
+        b"rounds 1\ndistance 4\nverdict clash 0 0 1\nshortest no\nsheet refused 14 0\n",
+    )
+}
+
+#[test]
+fn a_names_file_has_up_to_60000_bytes(rt: HostRuntime) -> Result<(), Fail> {
+    let long = [0; 60001];
+    prints_page(&rt, LIFT, PAUSED, &long, b"names refused 1 60000\n")?;
+    prints_page(&rt, LIFT, PAUSED, &long[..60000], b"names refused 2 0\n")
 }

@@ -1,5 +1,6 @@
 //! What the tests do with a book.
 use planning::book::Book;
+use planning::issued::{Issued, NotIssued};
 use planning::refusal::Refusal;
 use sets::jobs::JobSet;
 use std::process::Abort;
@@ -48,4 +49,22 @@ pub fn add_pauses(book: &mut Book, sheet: &mut [JobSet], count: u16) -> Result<(
         book.add(sheet, b"")?;
     }
     Ok(())
+}
+
+/// The issued book.
+pub fn issued(answer: Result<Issued, NotIssued>) -> Result<Issued, Fail> {
+    answer.map_err(|_| Fail::new("not issued"))
+}
+
+/// A book of these rounds, of a task with up to six facts, issued under the rule.
+pub fn issue_all<S: Task, R: Rule>(
+    task: &S,
+    rule: &R,
+    sheet: &mut [JobSet],
+    rounds: &[&[u8]],
+) -> Result<Issued, Fail> {
+    let mut table = [0; 21];
+    let mut book = Book::open(task, &mut table)?;
+    add_all(&mut book, sheet, rounds)?;
+    issued(book.issue(task, rule, &table, sheet))
 }

@@ -1,7 +1,7 @@
 -- Records: a two-byte mark, a length byte, and a body of that length.
 --
 --   Mark                    two bytes
---   TK AC ST GO RD          the marks of a task, of a job, of a start, of a goal and of a round
+--   TK AC ST GO RD NJ       the marks of a task, of a job, of a start, of a goal, of a round and of a name
 --   record_bytes k b        the bytes of the record with mark k and body b
 --   mark_at file p          the mark of the record at byte p of a file
 --   size_at file p          its length byte
@@ -19,7 +19,7 @@ use Rattle.std.specs.Prelude.{◌≡◌, ℕ, zero, suc, ◌+◌, ◌≤◌, ◌
 use Rattle.planning.specs.declared.refusal.Refusal.{Refusal}
 use Rattle.planning.specs.Refusals.{told as numbers}
 use Rattle.files.specs.declared.record.Record.{Record}
-use Rattle.files.specs.declared.record.Record.TheVariants.{Task, Job, Start, Goal, Round}
+use Rattle.files.specs.declared.record.Record.TheVariants.{Task, Job, Start, Goal, Round, Name}
 use Rattle.files.specs.declared.record.Placed.{Placed}
 
 abbrev pub Mark : Type 0
@@ -39,6 +39,9 @@ GO = (0x47, 0x4F)
 
 abbrev pub RD : Mark
 RD = (0x52, 0x44)
+
+abbrev pub NJ : Mark
+NJ = (0x4E, 0x4A)
 
 abbrev pub record_bytes : Mark → List ℕ → List ℕ
 record_bytes k b = k.0 ∷ (k.1 ∷ (length b ∷ b))
@@ -78,6 +81,7 @@ told (Job b) = (AC, b.now)
 told (Start b) = (ST, b.now)
 told (Goal b) = (GO, b.now)
 told (Round b) = (RD, b.now)
+told (Name b) = (NJ, b.now)
 
 abbrev pub Found : List ℕ → ℕ → Result Placed Refusal → Type 0
 Found file p (Ok q) = Whole file p × (told q.record ≡ (mark_at file p, body_at file p)) × (q.at ≡ p) × (q.end ≡ behind file p)

@@ -19,6 +19,8 @@ pub enum Record<'a> {
     Goal(&'a [u8]),
     /// RD: a round.
     Round(&'a [u8]),
+    /// NJ: the name of a job.
+    Name(&'a [u8]),
 }
 
 /// A record with the byte where its mark begins and the byte behind its body.

@@ -1,5 +1,5 @@
 -- What is told of a distance, and that it tells the distance.
-use Rattle.std.proofs.Common.{◌≡◌, ℕ, suc, ◌+◌, true, false, List, [], ◌∷◌, length, ℤ, Some, None, Ok, Option, codes, ◌∙◌, sym, ap, refl, inl, inr, arith}
+use Rattle.std.proofs.Common.{◌≡◌, ℕ, ◌+◌, false, List, [], ◌∷◌, length, ℤ, Some, None, Ok, Option, codes, ◌∙◌, sym, ap, refl, inl, inr, arith}
 use Rattle.strips.specs.Tasks.{Meaning}
 use Rattle.reach.specs.Tables.{Table, GoalTold}
 use Rattle.planning.specs.declared.book.Book.{Book}

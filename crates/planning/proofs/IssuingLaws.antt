@@ -1,13 +1,16 @@
 -- What issuing answers, by what judging does, and after a list of calls.
-use Rattle.std.proofs.Common.{◌≡◌, Bool, ℕ, length, ◌<◌, List, Ok, Err, Result, codes, [], refl, inr}
+use Rattle.std.proofs.Common.{◌≡◌, Bool, ℕ, length, ◌<◌, min, take, List, Ok, Err, Result, refl, ap, ◌∙◌, inr, length-take, arith}
+use Rattle.std.proofs.lemmas.List.{length-map}
 use Rattle.sets.specs.declared.jobs.JobSet.{JobSet}
 use Rattle.strips.specs.Tasks.{Meaning, Admitted}
 use Rattle.strips.specs.Rules.{Says, Lawful}
+use Rattle.strips.specs.Rounds.{round_of}
 use Rattle.verdicts.specs.declared.verdict.Verdict.TheVariants.{Sound}
 use Rattle.verdicts.specs.Verdicts.{IsSound}
 use Rattle.verdicts.specs.Sheets.{rounds_of, VerdictOn}
 use Rattle.verdicts.proofs.SheetLaws.{verdict_on}
 use Rattle.reach.specs.Tables.{Table}
+use Rattle.pages.specs.Names.{Names}
 use Rattle.planning.specs.declared.book.Book.{Book}
 use Rattle.planning.specs.declared.issued.Issued.{Issued}
 use Rattle.planning.specs.declared.issued.NotIssued.{NotIssued}
@@ -16,8 +19,10 @@ use Rattle.planning.specs.declared.report.Report.{Report}
 use Rattle.planning.specs.Refusals.{told}
 use Rattle.planning.specs.Calls.{Reported}
 use Rattle.planning.specs.Issuing.{Unsound, misfit, unsound, SoundOrNot, Issuing, JobAsked}
-use Rattle.planning.specs.Runs.{Call, sheet_of}
-use Rattle.planning.specs.Main.{Worked, IssuedIfPlan, IssuedOfRuns, AskedOfRuns}
+use Rattle.planning.specs.Printing.{FitsToPrint, PagePrinted, fit}
+use Rattle.planning.specs.Printing as printing
+use Rattle.planning.specs.Runs.{World, Call, sheet_of}
+use Rattle.planning.specs.Main.{Worked, IssuedIfPlan, IssuedOfRuns, AskedOfRuns, PageOfRuns}
 use Rattle.planning.proofs.ListsOfCalls.{stories}
 
 module _ (T : Meaning) (R : Says) (ok : Admitted T) (law : Lawful R) (b : Book) (tb : Table) (sh : List JobSet) where
@@ -38,6 +43,23 @@ module _ (T : Meaning) (R : Says) (ok : Admitted T) (law : Lawful R) (b : Book) 
 
   pub issued_of_runs : (r : Result Issued NotIssued) → Issuing T R b tb sh r → IssuedOfRuns T R b tb sh r
   issued_of_runs r answer σ here = if_plan (rw here at ((stories T R ok law).worked σ)) r answer
+
+-- after a list of calls task and sheet fit the book
+fits_to_print : {T : Meaning} {R : Says} {L k : ℕ} {cs : List Call} {w : World} → Worked T R L k cs w → FitsToPrint T w.book w.sheet
+fits_to_print {T} {w = v} w =
+    let long : length (rounds_of T.m v.book.rounds v.sheet) ≡ min v.book.rounds (length v.sheet) =
+    length-map (take v.book.rounds v.sheet) (round_of T.m) ∙ length-take v.book.rounds v.sheet in
+    let same = ap length w.sheet in
+    let used = w.rounds in
+    record { n_is = w.fits.n_is; m_is = w.fits.m_is; places = omega arith }
+
+-- what is printed of an issued book, after a list of calls that leads to its book and the sheet
+pub page_of_runs : (T : Meaning) (N : Names) → Admitted T → (i : Issued) (sh : List JobSet) (mem : List ℕ) (r : Result ℕ Refusal) (mem' : List ℕ)
+    → PagePrinted T N i sh mem r mem' → PageOfRuns T N i sh mem r mem'
+page_of_runs T N ok i sh mem r mem' (printing.misfit out _ _) R law σ b s =
+    let w = (stories T R ok law).worked σ in absurd (out (rw (b, s) at (fits_to_print w)))
+page_of_runs T N ok i sh mem r mem' (fit _ wrote) R law σ b s =
+    let w = (stories T R ok law).worked σ in rw (← w.sheet, b, s) wrote
 
 -- what an issued book answers, after a list of calls that leads to its book and the sheet
 pub asked_of_runs : (i : Issued) (sh : List JobSet) (r j : ℕ) (a : Result Bool Refusal) → JobAsked i sh r j a → AskedOfRuns i sh r j a

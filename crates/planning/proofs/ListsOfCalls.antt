@@ -1,5 +1,5 @@
 -- The theorem on lists of calls.
-use Rattle.std.proofs.Common.{◌≡◌, ℕ, min, List, [], ◌∷◌, length, Ok, Err, Result, sym, refl, ap, ◌∙◌, inl, inr, arith}
+use Rattle.std.proofs.Common.{◌≡◌, ℕ, min, List, [], ◌∷◌, length, Ok, Err, Result, sym, refl, ◌∙◌, inl, inr, arith}
 use Rattle.std.specs.Cmp.{both_ways as same_tests}
 use Rattle.std.proofs.lemmas.Bool.{both_ways}
 use Rattle.sets.specs.declared.jobs.JobSet.{JobSet}

@@ -26,6 +26,8 @@
 --                           lists of calls that lead there
 --   AskedOfRuns i sh r j a  what an issued book answers of job j in round r, for all lists of calls that lead to its
 --                           book and this sheet: whether that round of the list has the job
+--   PageOfRuns T N i sh mem r mem'   what printing it answers and writes, for all lists of calls that lead to its book and this
+--                           sheet: the page of the rounds of the list
 use Rattle.std.specs.Prelude.{◌≡◌, ℕ, suc, ◌<◌, ◌≤◌, min, Bool, true, ◌⊎◌, ◌↔◌, ⊤, List, length, Ok, Err, Result, slice_index}
 use Rattle.sets.specs.declared.jobs.JobSet.{JobSet}
 use Rattle.strips.specs.Tasks.{Meaning, Admitted}
@@ -36,6 +38,8 @@ use Rattle.layers.specs.Pairs.{pair_count}
 use Rattle.layers.specs.Layers.{Layer, First, GoalAt, Distance as IsDistance}
 use Rattle.layers.specs.Bounds.{Settles}
 use Rattle.reach.specs.Tables.{Table, entry}
+use Rattle.pages.specs.Names.{Names}
+use Rattle.pages.specs.Pages.{page}
 use Rattle.planning.specs.declared.book.Book.{Book}
 use Rattle.planning.specs.declared.issued.Issued.{Issued}
 use Rattle.planning.specs.declared.issued.NotIssued.{NotIssued}
@@ -46,6 +50,7 @@ use Rattle.planning.specs.Refusals.{told}
 use Rattle.planning.specs.Reports.{ToldAs, Excess, Shortest}
 use Rattle.planning.specs.Calls.{Fits, Asked, Judging}
 use Rattle.planning.specs.Issuing.{has_job}
+use Rattle.planning.specs.Printing.{Written}
 use Rattle.planning.specs.Runs.{World, Call, Story, growings, sheet_of}
 
 abbrev pub Bounds : Meaning → Says → Distance → Type 0
@@ -130,3 +135,8 @@ abbrev pub AskedOfRuns : Issued → List JobSet → ℕ → ℕ → Result Bool 
 AskedOfRuns i sh r j a =
     (T : Meaning) (R : Says) → Admitted T → Lawful R → (σ : Story T R) → σ.last.book ≡ i.book → σ.last.sheet ≡ sh
     → a ≡ Ok (has_job (sheet_of T.m (length σ.first.sheet) σ.calls) r j)
+
+abbrev pub PageOfRuns : Meaning → Names → Issued → List JobSet → List ℕ → Result ℕ Refusal → List ℕ → Type 0
+PageOfRuns T N i sh mem r mem' =
+    (R : Says) → Lawful R → (σ : Story T R) → σ.last.book ≡ i.book → σ.last.sheet ≡ sh
+    → Written (page T.m N (sheet_of T.m (length σ.first.sheet) σ.calls)) mem r mem'

@@ -21,6 +21,8 @@ use Rattle.planning.specs.declared.refusal.Cause.TheVariants.{
   NoRounds,
   Settled,
   UnsoundSheet,
+  BadName,
+  ShortOutput,
 }
 use Rattle.planning.specs.declared.refusal.Refusal.{Refusal}
 
@@ -39,6 +41,8 @@ number SheetFull = 11
 number NoRounds = 12
 number Settled = 13
 number UnsoundSheet = 14
+number BadName = 15
+number ShortOutput = 16
 
 abbrev pub told : Refusal → ℕ × ℕ
 told e = (number e.cause, e.place)

@@ -8,6 +8,7 @@ mod grow;
 mod issue;
 mod judge;
 mod open;
+mod print;
 
 // `settled` stands beside the layer and not in its place: a settled book reads its table as layer `t` too.
 /// A book: how many facts and job numbers its task has, the layer of its table, whether that is

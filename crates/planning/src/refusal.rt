@@ -22,14 +22,14 @@ pub enum Cause {
     FactCount = 4,
     /// A fact is `n` or above.
     NoSuchFact = 5,
-    /// A list of numbers doesn't rise strictly.
+    /// Numbers that have to rise strictly don't.
     NotRising = 6,
     /// A job adds and deletes one fact.
     AddsMeetDeletes = 7,
     /// Bytes follow the last record.
     BytesFollow = 8,
-    /// The memory or the task isn't the right one: there are fewer rows than `m`, fewer entries than
-    /// n(n+1)/2, fewer sheet places than rounds, or the task's `n` or `m` isn't the book's.
+    /// The memory or the task isn't the right one: there are fewer rows or name places than `m`, fewer entries
+    /// than n(n+1)/2, fewer sheet places than rounds, or the task's `n` or `m` isn't the book's.
     Misfit = 9,
     /// A job number is `m` or above.
     NoSuchJob = 10,
@@ -41,6 +41,10 @@ pub enum Cause {
     Settled = 13,
     /// A sheet that isn't sound isn't issued.
     UnsoundSheet = 14,
+    /// A name record's body isn't 2 to 17 bytes, or a byte of its name isn't from 32 to 126.
+    BadName = 15,
+    /// The memory to write to is shorter than what is to be written.
+    ShortOutput = 16,
 }
 
 /// A refusal: its cause, which has a number, and its place.

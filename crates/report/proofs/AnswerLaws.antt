@@ -1,5 +1,5 @@
 -- What is judged after growing to the end is the answer.
-use Rattle.std.proofs.Common.{◌≡◌, ℕ, zero, suc, List, ◌++◌, length, Ok, Result, refl}
+use Rattle.std.proofs.Common.{◌≡◌, ℕ, zero, suc, List, ◌++◌, length, Ok, Result, refl, ◌∙◌}
 use Rattle.std.proofs.lemmas.Bool.{both_ways}
 use Rattle.sets.specs.declared.jobs.JobSet.{JobSet}
 use Rattle.strips.specs.Tasks.{Meaning, Admitted}
@@ -18,7 +18,7 @@ use Rattle.planning.specs.Main.{ToldAfter, Decided, JudgedWell, HoldsOfRuns}
 use Rattle.planning.proofs.DistanceLaws.{decided_not_more}
 use Rattle.planning.proofs.ListsOfCalls.{stories}
 use Rattle.report.specs.Growing.{growths, GrownOut}
-use Rattle.report.specs.Answers.{TrueOf, Answer, AnswersRuns}
+use Rattle.report.specs.Answers.{TrueOf, Answer, AnswersRuns, GrownOn}
 
 -- a list of calls after a list of calls; the latest call is the first of a list
 pub run_on : {T : Meaning} {R : Says} {w₀ w w' : World} {cs ds : List Call} → Run T R w₀ cs w → Run T R w ds w' → Run T R w₀ (ds ++ cs) w'
@@ -74,6 +74,15 @@ module _ (T : Meaning) (R : Says) where
         rw is (rw (sheet_grown T.m k out.times σ.calls) at
         (answers holds.stories.last_layer _ holds.stories.settles _ rep
         (decided_too b' tb' d rep.distance by decided known.distance) well))
+
+    -- what growing until then leads to
+    pub grown_led : GrownOn T R b tb sh b' tb'
+    grown_led rs (σ, here, rounds) =
+        (grown_on σ here, refl, sheet_grown T.m (length σ.first.sheet) out.times σ.calls ∙ rounds)
+
+  -- a refusal leads to what was
+  pub not_grown : (b : Book) (tb : Table) (sh : List JobSet) (b' : Book) (tb' : Table) → b' ≡ b → tb' ≡ tb → GrownOn T R b tb sh b' tb'
+  not_grown b tb sh b' tb' bs ts rs led = rw (bs, ts) led
 
   -- growing is not refused after a list of calls
   pub not_refused : Admitted T → Lawful R → (b : Book) (tb : Table) (sh : List JobSet) (r : Result Report Refusal) → (Fits T b tb → ⊥)

@@ -48,7 +48,7 @@ unfolding task
 task_is h rows = refl
 
 -- a file is the bytes of one task
-same_task : (tf : List ℕ) (T T' : Meaning) → TaskOf tf T → TaskOf tf T' → T ≡ T'
+pub same_task : (tf : List ℕ) (T T' : Meaning) → TaskOf tf T → TaskOf tf T' → T ≡ T'
 same_task tf T T' (_, (h, rows, file, is)) (_, (h', rows', file', is')) =
     let same = one_task tf h h' rows rows' file file' in
     let a = task_is h rows in
@@ -56,11 +56,11 @@ same_task tf T T' (_, (h, rows, file, is)) (_, (h', rows', file', is')) =
     cc
 
 -- a file that is the bytes of a task is not refused
-no_task : (tf : List ℕ) (T : Meaning) (e : Refusal) → TaskOf tf T → TaskRefused tf e → ⊥
+pub no_task : (tf : List ℕ) (T : Meaning) (e : Refusal) → TaskOf tf T → TaskRefused tf e → ⊥
 no_task tf T e (small, _) (inl (large, _)) = omega arith
 no_task tf T e (_, (h, rows, file, _)) (inr (_, first)) = not_at_fault h rows tf file 255 (told e).0 (told e).1 h.limits.2 first
 
-same_numbers : (c p c' p' : ℕ) → (c ≡ c') × (p ≡ p') → ◌≡◌ {A = ℕ × ℕ} (c, p) (c', p')
+pub same_numbers : (c p c' p' : ℕ) → (c ≡ c') × (p ≡ p') → ◌≡◌ {A = ℕ × ℕ} (c, p) (c', p')
 same_numbers c p c' p' (own, place) = cc
 
 task_refused_once : (tf : List ℕ) (e e' : Refusal) → TaskRefused tf e → TaskRefused tf e' → told e ≡ told e'
@@ -85,7 +85,7 @@ fit_not_refused m k pf lists c p fit is first =
     refused_exactly b (replicate k place) pf c p (faulty (omega arith) (rw len first)) lists (rw len fit) is
 
 -- a file that is the bytes of rounds is not refused
-no_sheet : (T : Meaning) (pf : List ℕ) (rs : List Round) (e : Refusal) → SheetOf T pf rs → PlanRefused T pf e → ⊥
+pub no_sheet : (T : Meaning) (pf : List ℕ) (rs : List Round) (e : Refusal) → SheetOf T pf rs → PlanRefused T pf e → ⊥
 no_sheet T pf rs e (small, _) (inl (large, _)) = omega arith
 no_sheet T pf rs e (_, (lists, is, few, fine, _)) (inr (_, first)) =
     fit_not_refused T.m 500 pf lists _ _ record { places_for = omega arith; lists = fine; room = λ i lt. room i (omega arith) } is first
@@ -94,7 +94,7 @@ no_sheet T pf rs e (_, (lists, is, few, fine, _)) (inr (_, first)) =
     room i lt = lt-ltb _ _ (omega arith)
 
 -- a file is the bytes of one list of rounds
-one_sheet : (T : Meaning) (pf : List ℕ) (rs rs' : List Round) → SheetOf T pf rs → SheetOf T pf rs' → rs ≡ rs'
+pub one_sheet : (T : Meaning) (pf : List ℕ) (rs rs' : List Round) → SheetOf T pf rs → SheetOf T pf rs' → rs ≡ rs'
 one_sheet T pf rs rs' (_, (lists, is, _, _, r)) (_, (lists', is', _, _, r')) =
     let same = one_list pf lists lists' is is' in r ∙ ap (map listed) same ∙ sym r'
 
@@ -128,7 +128,7 @@ module _ (T : Meaning) (R : Says) where
   one_distance d d' _ (at_least _ _ wrong) = absurd wrong
 
   -- rounds have one answer
-  one_answer : (rs : List Round) (rep rep' : Report) → Answer T R rs rep → Answer T R rs rep' → rep ≡ rep'
+  pub one_answer : (rs : List Round) (rep rep' : Report) → Answer T R rs rep → Answer T R rs rep' → rep ≡ rep'
   one_answer rs rep rep' a a' =
       let rounds : rep.rounds ≡ rep'.rounds = a.rounds ∙ sym a'.rounds in
       let distance : rep.distance ≡ rep'.distance = same_distance _ _ (one_distance rep.distance rep'.distance a.distance a'.distance) in
@@ -139,7 +139,7 @@ module _ (T : Meaning) (R : Says) where
       cc
 
 -- two files are answered with one text
-same_text : (tf pf : List ℕ) (r s : Result Report Refused) → FilesAnswered tf pf r → FilesAnswered tf pf s → text_of r ≡ text_of s
+pub same_text : (tf pf : List ℕ) (r s : Result Report Refused) → FilesAnswered tf pf r → FilesAnswered tf pf s → text_of r ≡ text_of s
 same_text tf pf (Ok rep) (Ok rep') (T, task, (rs, sheet, answer)) (T', task', (rs', sheet', answer')) =
     let same = same_task tf T T' task task' in
     let rounds : rs ≡ rs' = one_sheet T pf rs rs' sheet (rw (← same) at sheet') in

@@ -21,7 +21,7 @@ use Rattle.planning.specs.Calls.{Opened}
 use Rattle.planning.specs.Runs.{World, Call, add, Run, opened, called, Story, sheet_of}
 use Rattle.files.specs.SheetFiles.{RoundsFit, AllAdded, Refusing, short, faulty, Read}
 use Rattle.report.specs.Answers.{Answer, AnswersRuns}
-use Rattle.report.specs.Files.{PlanRefused, PlanAnswered}
+use Rattle.report.specs.Files.{PlanRefused, PlanRead, PlanAnswered}
 
 -- the addings of these lists, in order, behind the calls cs; the latest call is the first of a list
 pub adding : List (List ℕ) → List Call → List Call
@@ -68,10 +68,9 @@ module _ (T : Meaning) (pf : List ℕ) (small : length pf ≤ 60000) (tb : Table
       go (short lt _ _) = absurd (omega arith)
       go (faulty _ first) = inr (small, first)
 
-  -- where it is accepted, and what is read is answered
-  pub reading_answered : (b' : Book) (sh' : List JobSet) → Read b sh pf (Ok tt) b' sh' → (r : Result Report Refusal)
-      → AnswersRuns T apart b' tb' sh' r → PlanAnswered T pf r
-  reading_answered b' sh' (lists, is, fit, added) r answers =
+  -- where it is accepted
+  pub reading_led : (b' : Book) (sh' : List JobSet) → Read b sh pf (Ok tt) b' sh' → PlanRead T pf (Ok b') tb' sh'
+  reading_led b' sh' (lists, is, fit, added) =
       let σ : Story T apart = record {
         table = tb;
         first = record { book = b; table = tb'; sheet = sh };
@@ -82,7 +81,7 @@ module _ (T : Meaning) (pf : List ℕ) (small : length pf ≤ 60000) (tb : Table
       } in
       let rounds : sheet_of T.m (length sh) (adding lists []) ≡ map listed lists =
       (rw all (sheet_added T.m 500 lists [] 0 refl fits.lists fits.room)) in
-      of_result r (rw rounds at (answers σ refl))
+      (map listed lists, (small, (lists, is, few, fits.lists, refl)), (σ, refl, rounds))
     where
       fits : RoundsFit T.m 500 0 lists
       fits = rw (jobs_are, all, none_used) at fit
@@ -93,9 +92,14 @@ module _ (T : Meaning) (pf : List ℕ) (small : length pf ≤ 60000) (tb : Table
         | inr le ↦ le
       ]
 
-      of_result : (r : Result Report Refusal) → IsOkAnd r (Answer T apart (map listed lists)) → PlanAnswered T pf r
-      of_result (Ok rep) answer = (map listed lists, (small, (lists, is, few, fits.lists, refl)), answer)
-      of_result (Err e) answer = absurd answer
+-- what is read is answered
+pub plan_answered : (T : Meaning) (pf : List ℕ) (b : Book) (tb : Table) (sh : List JobSet) → PlanRead T pf (Ok b) tb sh
+    → (r : Result Report Refusal) → AnswersRuns T apart b tb sh r → PlanAnswered T pf r
+plan_answered T pf b tb sh (rs, read, (σ, here, rounds)) r answers = of_result r (rw rounds at (answers σ here))
+  where
+    of_result : (r : Result Report Refusal) → IsOkAnd r (Answer T apart rs) → PlanAnswered T pf r
+    of_result (Ok rep) answer = (rs, read, answer)
+    of_result (Err e) answer = absurd answer
 
 -- opening is not refused where there are entries for 128 facts
 pub opening_accepted : (T : Meaning) (ok : Admitted T) (tb : Table) (e : Refusal) (tb' : Table) → length tb ≡ 8256 → Opened T tb (Err e) tb' → ⊥

@@ -6,6 +6,10 @@
 --                              plans is so
 --   AnswersRuns T R b tb sh r  what is answered where a list of calls after an accepted opening has led to the book b,
 --                              the table tb and the sheet sh: the report that answers to the rounds that the list gives
+--   Led T R b tb sh rs         a list of calls after an accepted opening leads to the book b, the table tb and the sheet
+--                              sh, and gives the rounds rs
+--   GrownOn T R b tb sh b' tb' where a list of calls has led to b, tb and sh, one leads to b', tb' and sh that gives
+--                              the same rounds
 use Rattle.std.specs.Prelude.{◌≡◌, ℕ, ◌≤◌, List, length, Result, IsOkAnd}
 use Rattle.sets.specs.declared.jobs.JobSet.{JobSet}
 use Rattle.strips.specs.Tasks.{Meaning}
@@ -37,3 +41,10 @@ abbrev pub AnswersRuns : Meaning → Says → Book → Table → List JobSet →
 AnswersRuns T R b tb sh r =
     (σ : Story T R) → σ.last ≡ record { book = b; table = tb; sheet = sh }
     → IsOkAnd r (Answer T R (sheet_of T.m (length σ.first.sheet) σ.calls))
+
+abbrev pub Led : Meaning → Says → Book → Table → List JobSet → List Round → Type 0
+Led T R b tb sh rs =
+    (σ : Story T R) × (σ.last ≡ record { book = b; table = tb; sheet = sh }) × (sheet_of T.m (length σ.first.sheet) σ.calls ≡ rs)
+
+abbrev pub GrownOn : Meaning → Says → Book → Table → List JobSet → Book → Table → Type 0
+GrownOn T R b tb sh b' tb' = (rs : List Round) → Led T R b tb sh rs → Led T R b' tb' sh rs

@@ -11,11 +11,14 @@
 --                          strictly rising, and the rounds rs are these lists
 --   PlanRefused T pf e     the sheet file is refused with e for the task T: it is too large, or e is the refusal of its
 --                          first record at fault, where 500 places are supplied and none is in use
+--   PlanRead T pf r tb sh  what reading the sheet file is answered: its rounds, and a book that a list of calls under
+--                          apart leads to that gives them, with the table tb and the sheet sh; or its refusal
 --   PlanAnswered T pf r    what the sheet file is answered for the task T, under apart
 --   FilesAnswered tf pf r  what the two files are answered: a task file that is refused, whatever the sheet file is;
 --                          else what the sheet file is for its task
 use Rattle.std.specs.Prelude.{◌≡◌, ℕ, ◌<◌, ◌≤◌, true, ◌⊎◌, List, map, length, Ok, Err, Result}
 use Rattle.std.specs.List.{All}
+use Rattle.sets.specs.declared.jobs.JobSet.{JobSet}
 use Rattle.sets.specs.Search.{listed}
 use Rattle.strips.specs.declared.header.Header.{Header}
 use Rattle.strips.specs.declared.row.Row.{Row}
@@ -23,6 +26,8 @@ use Rattle.strips.specs.Tasks.{Meaning}
 use Rattle.strips.specs.Loading.{loaded}
 use Rattle.strips.specs.Rules.{apart}
 use Rattle.strips.specs.Rounds.{Round}
+use Rattle.reach.specs.Tables.{Table}
+use Rattle.planning.specs.declared.book.Book.{Book}
 use Rattle.planning.specs.declared.refusal.Refusal.{Refusal}
 use Rattle.planning.specs.declared.report.Report.{Report}
 use Rattle.planning.specs.Refusals.{told}
@@ -32,7 +37,7 @@ use Rattle.files.specs.TaskFaults.{FirstTaskFault}
 use Rattle.files.specs.SheetFiles.{sheet_bytes, FirstSheetFault}
 use Rattle.report.specs.declared.lines.Refused.{Refused}
 use Rattle.report.specs.declared.lines.Refused.TheVariants.{Task, Plan}
-use Rattle.report.specs.Answers.{Answer}
+use Rattle.report.specs.Answers.{Answer, Led}
 
 abbrev pub Oversized : List ℕ → Refusal → Type 0
 Oversized f e = (60000 < length f) × (told e ≡ (1, 60000))
@@ -62,6 +67,10 @@ SheetOf T pf rs =
 
 abbrev pub PlanRefused : Meaning → List ℕ → Refusal → Type 0
 PlanRefused T pf e = Oversized pf e ⊎ ((length pf ≤ 60000) × FirstSheetFault T.m 500 0 pf (told e).0 (told e).1)
+
+abbrev pub PlanRead : Meaning → List ℕ → Result Book Refusal → Table → List JobSet → Type 0
+PlanRead T pf (Ok b) tb sh = (rs : List Round) × SheetOf T pf rs × Led T apart b tb sh rs
+PlanRead T pf (Err e) tb sh = PlanRefused T pf e
 
 abbrev pub PlanAnswered : Meaning → List ℕ → Result Report Refusal → Type 0
 PlanAnswered T pf (Ok rep) = (rs : List Round) × SheetOf T pf rs × Answer T apart rs rep

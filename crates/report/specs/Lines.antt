@@ -5,8 +5,8 @@
 --                         shortest, else `no`
 --   lines_of rep          the four lines of the report rep: its rounds, distance, verdict, and whether the sheet is
 --                         called shortest
---   refused_line file t   the line of a file that is refused: which file it is, and the two numbers t of the refusal,
---                         its own and its place
+--   refused_line name t   the line of what is refused: its name, and the two numbers t of the refusal, its own and its
+--                         place
 --   line_of e             the line of the refusal e
 --   text_of r             the text of the answer r: the four lines, or the line of a refusal
 use Rattle.std.specs.Prelude.{ℕ, ℤ, pos, zero, List, [], ◌∷◌, ◌++◌, Some, codes, decimal, Option, Ok, Err, Result}
@@ -34,7 +34,7 @@ lines_of rep =
     ++ line (codes "shortest " ++ shortest_word rep.verdict rep.excess)))
 
 abbrev pub refused_line : List ℕ → ℕ × ℕ → List ℕ
-refused_line file t = line (file ++ (codes " refused " ++ (decimal t.0 ++ (codes " " ++ decimal t.1))))
+refused_line name t = line (name ++ (codes " refused " ++ (decimal t.0 ++ (codes " " ++ decimal t.1))))
 
 abbrev pub line_of : Refused → List ℕ
 line_of (Task e) = refused_line (codes "task") (told e)

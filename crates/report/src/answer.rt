@@ -1,5 +1,5 @@
 //! The answer to a sheet.
-ghost use Rattle.report.specs.Answers.{AnswersRuns};
+ghost use Rattle.report.specs.Answers.{AnswersRuns, GrownOn};
 ghost use Rattle.strips.specs.Rules.{apart};
 
 use crate::grow::grow_until_decided;
@@ -14,15 +14,17 @@ use strips::task::Task;
 ///
 /// Where the book, the table and the sheet come from an accepted opening of this task and any list of growings under
 /// apart, addings, droppings, judgings and issuings after it, where an issuing that isn't refused is followed by
-/// reopening, this isn't refused, and what is answered is true of the task and of the rounds that the list gives.
+/// reopening, this isn't refused, and what is answered is true of the task and of the rounds that the list gives. Then
+/// a list of calls leads to the book and the table as they are left, and gives the same rounds.
 pub(crate) fn answer<S: Task>(
     task: &S,
-    mut book: Book,
+    book: &mut Book,
     table: &mut [u16],
     sheet: &[JobSet],
 ) -> Result<Report, Refusal>
-    ensures { AnswersRuns (S.Task.meaning task.now) apart book table.old sheet.now result }
+    ensures answers { AnswersRuns (S.Task.meaning task.now) apart book.old table.old sheet.now result }
+    ensures grown { GrownOn (S.Task.meaning task.now) apart book.old table.old sheet.now book.new table.new }
 {
-    grow_until_decided(&mut book, task, table)?;
+    grow_until_decided(book, task, table)?;
     book.judge(task, &Apart, table, sheet)
 }

@@ -1,5 +1,5 @@
 //! Judging a sheet file on a task file.
-ghost use Rattle.report.specs.Files.{SizeChecked, TaskLoaded, PlanAnswered, FilesAnswered};
+ghost use Rattle.report.specs.Files.{SizeChecked, TaskLoaded, PlanRead, PlanAnswered, FilesAnswered};
 ghost use Rattle.std.specs.Prelude.{◌≡◌, length};
 
 use crate::answer::answer;
@@ -21,7 +21,7 @@ use strips::task::{MOST_JOBS, Task};
 const MOST_BYTES: usize = 60_000;
 
 /// Refuses a file of more than 60,000 bytes with 1, place 60,000.
-fn check_size(file: &[u8]) -> Result<(), Refusal>
+pub(crate) fn check_size(file: &[u8]) -> Result<(), Refusal>
     ensures { SizeChecked file.now result }
 {
     if file.len() > MOST_BYTES {
@@ -31,7 +31,7 @@ fn check_size(file: &[u8]) -> Result<(), Refusal>
 }
 
 /// Loads a task file into the rows, of which there are 255.
-fn load_task(file: &[u8], rows: &mut [Row]) -> Result<Header, Refusal>
+pub(crate) fn load_task(file: &[u8], rows: &mut [Row]) -> Result<Header, Refusal>
     requires { length rows.old ≡ 255 }
     ensures { TaskLoaded file.now result rows.new }
 {
@@ -39,7 +39,25 @@ fn load_task(file: &[u8], rows: &mut [Row]) -> Result<Header, Refusal>
     load(file, rows)
 }
 
-// Opening and answering are never refused: there are entries for 128 facts, and book, table and sheet go together.
+// Opening is never refused: there are entries for 128 facts.
+/// Opens a book for the task and reads the sheet file, where the table has entries for 128 facts and the sheet 500 places.
+pub(crate) fn read_plan<S: Task>(
+    task: &S,
+    plan_file: &[u8],
+    table: &mut [u16],
+    sheet: &mut [JobSet],
+) -> Result<Book, Refusal>
+    requires entries { length table.old ≡ 8256 }
+    requires places { length sheet.old ≡ 500 }
+    ensures { PlanRead (S.Task.meaning task.now) plan_file.now result table.new sheet.new }
+{
+    check_size(plan_file)?;
+    let mut book = Book::open(task, table)?;
+    read_sheet(&mut book, sheet, plan_file)?;
+    Ok(book)
+}
+
+// Answering is never refused: book, table and sheet go together.
 /// What a sheet file is answered for the task, where the table has entries for 128 facts and the sheet 500 places.
 fn judge_plan<S: Task>(
     task: &S,
@@ -51,10 +69,8 @@ fn judge_plan<S: Task>(
     requires places { length sheet.old ≡ 500 }
     ensures { PlanAnswered (S.Task.meaning task.now) plan_file.now result }
 {
-    check_size(plan_file)?;
-    let mut book = Book::open(task, table)?;
-    read_sheet(&mut book, sheet, plan_file)?;
-    answer(task, book, table, sheet)
+    let mut book = read_plan(task, plan_file, table, sheet)?;
+    answer(task, &mut book, table, sheet)
 }
 
 /// Loads the task file, reads the sheet file, grows the table until a distance or none is told, and judges, all under

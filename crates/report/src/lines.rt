@@ -1,5 +1,6 @@
 //! The lines that are printed.
-ghost use Rattle.report.specs.Lines.{shortest_word, lines_of, line_of};
+ghost use Rattle.planning.specs.Refusals.{told};
+ghost use Rattle.report.specs.Lines.{shortest_word, lines_of, refused_line, line_of};
 ghost use Rattle.std.specs.Prelude.{◌≡◌, Some};
 
 use planning::refusal::Refusal;
@@ -40,17 +41,33 @@ impl fmt::Display for Lines {
     }
 }
 
+/// The line of what is refused: its name, the number of the refusal and its place, as `plan refused 6 9`.
+#[derive(Clone, Copy)]
+pub(crate) struct RefusedLine {
+    pub(crate) name: &'static str,
+    pub(crate) refusal: Refusal,
+}
+
+impl fmt::Display for RefusedLine {
+    ghost output = { λ line. Some (refused_line line.name.now (told line.refusal)) };
+
+    fn fmt<W: fmt::Write>(&self, f: &mut fmt::Formatter<W>) -> fmt::Result {
+        let RefusedLine { name, refusal } = self;
+        let number = refusal.cause.number();
+        writeln!(f, "{name} refused {number} {}", refusal.place)
+    }
+}
+
 /// One line: which file is refused, the number of the refusal and its place, as `plan refused 6 9`.
 impl fmt::Display for Refused {
     ghost output = { λ refused. Some (line_of refused) };
 
     fn fmt<W: fmt::Write>(&self, f: &mut fmt::Formatter<W>) -> fmt::Result {
-        let (file, refusal) = match self {
+        let (name, refusal) = match *self {
             Refused::Task(refusal) => ("task", refusal),
             Refused::Plan(refusal) => ("plan", refusal),
         };
-        let number = refusal.cause.number();
-        writeln!(f, "{file} refused {number} {}", refusal.place)
+        write!(f, "{}", RefusedLine { name, refusal })
     }
 }
 

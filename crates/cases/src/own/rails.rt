@@ -1,6 +1,7 @@
 //! A task that calculates its jobs: two trolleys on two rails.
 ghost use Rattle.std.specs.Prelude.{◌≡◌, ◌*◌, ◌≤◌};
 
+use pages::task::NamedTask;
 use sets::facts::FactSet;
 use strips::job::Job;
 use strips::task::Task;
@@ -67,5 +68,24 @@ impl Task for Rails {
             adds: FactSet::single(j + 1),
             deletes: here,
         })
+    }
+}
+
+/// Each job number has the name of its rail, A or B, also where there is no job.
+impl NamedTask for Rails {
+    ghost use Rattle.cases.specs.Own.{rail_names, rails_named};
+
+    ghost names = { λ s. rail_names s.places };
+
+    ghost naming = { λ s. rails_named s.places };
+
+    fn name(&self, j: u8) -> &[u8] {
+        if j >= 2 * self.places {
+            b""
+        } else if j < self.places {
+            b"A"
+        } else {
+            b"B"
+        }
     }
 }

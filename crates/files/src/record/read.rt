@@ -10,7 +10,7 @@ const FRONT: usize = 3;
 /// The record of the file that begins at byte `at`, with that byte and the byte behind its body.
 ///
 /// Refused at `at`: with 1 if fewer than three bytes are left, or the body passes the end of the file; else
-/// with 2 if its mark is none of the five.
+/// with 2 if its mark is none of the six.
 pub fn record_at(file: &[u8], at: usize) -> Result<Placed<'_>, Refusal>
     ensures { Found file.now at result }
 {
@@ -31,6 +31,7 @@ pub fn record_at(file: &[u8], at: usize) -> Result<Placed<'_>, Refusal>
         (0x53, 0x54) => Record::Start(body),
         (0x47, 0x4F) => Record::Goal(body),
         (0x52, 0x44) => Record::Round(body),
+        (0x4E, 0x4A) => Record::Name(body),
         _ => return Err(Cause::OtherMark.at(at)),
     };
     Ok(Placed { record, at, end })

@@ -1,0 +1,2 @@
+mod LineLaws
+pub mod PageLaws
