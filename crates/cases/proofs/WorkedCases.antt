@@ -1,7 +1,8 @@
 -- The worked cases, by computing.
-use Rattle.std.proofs.Common.{◌≡◌, ℕ, ◌≤◌, true, [], ◌∷◌, refl, inl, inr, lit≤}
+use Rattle.std.proofs.Common.{◌≡◌, ℕ, ◌≤◌, true, [], ◌∷◌, map, refl, inl, inr, lit≤}
 use Rattle.strips.specs.Admits.{withheld_admitted, moved_admitted}
 use Rattle.strips.specs.Jobs.{spoils, interferes}
+use Rattle.strips.specs.Loading.{job_of}
 use Rattle.strips.specs.Rounds.{some_job}
 use Rattle.strips.specs.Rules.{apart, single_file}
 use Rattle.strips.specs.Tasks.{Admitted}
@@ -17,7 +18,7 @@ use Rattle.planning.specs.declared.report.Distance.TheVariants.{Told, NoPlan, At
 use Rattle.verdicts.specs.declared.verdict.Verdict.TheVariants.{Closed, Clash, Missing, Goal, Sound}
 use Rattle.verdicts.specs.Judging.{Judged}
 use Rattle.planning.specs.Reports.{number, none, at_least}
-use Rattle.cases.specs.Counts.{lift_jobs, lift, lift_without_3, lift_from_1_4, twin_jobs, twin, sheet}
+use Rattle.cases.specs.Counts.{lift_jobs, lift, lift_without_3, lift_from_1_4, twin_jobs, twin, called_rows, called_lift, sheet}
 use Rattle.cases.specs.WorkedCases.{After, SettledAfter, Entry, WorkedCases}
 use Rattle.cases.proofs.Tests.{admitted_is}
 use Rattle.cases.proofs.Tables.{settles?, settles, distance, not_reached, first_at, never_at}
@@ -30,6 +31,10 @@ lift_admitted = admitted_is 5 (0 ∷ 2 ∷ []) (0 ∷ 4 ∷ []) lift_jobs (lit�
 twin_admitted : Admitted twin
 unfolding has bit
 twin_admitted = admitted_is 4 (0 ∷ 2 ∷ []) (1 ∷ 3 ∷ []) twin_jobs (lit≤ tt) (lit≤ tt) (lit≤ tt) refl
+
+called_admitted : Admitted called_lift
+unfolding has bit set_of word
+called_admitted = admitted_is 5 (0 ∷ 2 ∷ []) (0 ∷ 4 ∷ []) (map (job_of 5) called_rows) (lit≤ tt) (lit≤ tt) (lit≤ tt) refl
 
 without_3_admitted : Admitted lift_without_3
 without_3_admitted = withheld_admitted _ lift lift_admitted
@@ -53,6 +58,9 @@ twin_table = 0 ∷ 65535 ∷ 1 ∷ 0 ∷ 1 ∷ 0 ∷ 1 ∷ 1 ∷ 65535 ∷ 1 ∷
 abbrev twin_single_table : Table
 twin_single_table = 0 ∷ 65535 ∷ 1 ∷ 0 ∷ 1 ∷ 0 ∷ 1 ∷ 2 ∷ 65535 ∷ 1 ∷ []
 
+abbrev called_table : Table
+called_table = 0 ∷ 65535 ∷ 1 ∷ 0 ∷ 1 ∷ 0 ∷ 1 ∷ 2 ∷ 65535 ∷ 1 ∷ 4 ∷ 3 ∷ 65535 ∷ 65535 ∷ 3 ∷ []
+
 lift_tested : settles? lift apart lift_table 4 ≡ true
 unfolding has bit any spoils interferes entry_number pair_count
 lift_tested = refl
@@ -72,6 +80,10 @@ twin_tested = refl
 twin_single_tested : settles? twin single_file twin_single_table 2 ≡ true
 unfolding has bit any entry_number pair_count
 twin_single_tested = refl
+
+called_tested : settles? called_lift apart called_table 4 ≡ true
+unfolding has bit any spoils interferes entry_number pair_count set_of word
+called_tested = refl
 
 -- five facts have 15 pairs, four have 10
 soon_5 : (k : ℕ) → k ≤ 15 → k ≤ pair_count 5
@@ -96,6 +108,9 @@ twin_settles = settles twin apart twin_table twin_admitted apart_lawful 1 twin_t
 
 twin_single_settles : Settles twin single_file 2
 twin_single_settles = settles twin single_file twin_single_table twin_admitted single_file_lawful 2 twin_single_tested (soon_4 2 (lit≤ tt))
+
+called_settles : Settles called_lift apart 4
+called_settles = settles called_lift apart called_table called_admitted apart_lawful 4 called_tested (soon_5 4 (lit≤ tt))
 
 -- what is told of the distance
 lift_told : SettledAfter lift apart 5 (Told 4)
@@ -123,6 +138,10 @@ twin_single_told : SettledAfter twin single_file 3 (Told 2)
 unfolding has bit any entry_number pair_count
 twin_single_told =
     (2, twin_single_settles, lit≤ tt, number 2 refl (distance twin single_file twin_single_table twin_admitted single_file_lawful 2 twin_single_tested 2 (lit≤ tt) refl, lit≤ tt))
+
+called_told : SettledAfter called_lift apart 5 (Told 4)
+unfolding has bit any entry_number pair_count
+called_told = (4, called_settles, lit≤ tt, number 4 refl (distance called_lift apart called_table called_admitted apart_lawful 4 called_tested 4 (lit≤ tt) refl, lit≤ tt))
 
 -- entries of the lift
 entry_7 : (entry_number 1 3 ≡ 7) × Entry lift apart 5 1 3 2
@@ -162,9 +181,17 @@ twin_clash : Judged twin single_file (sheet ((0 ∷ 1 ∷ []) ∷ [])) (Clash 0 
 unfolding has bit any listed some_job
 twin_clash = verdict_is twin single_file twin_admitted single_file_lawful ((0 ∷ 1 ∷ []) ∷ []) (has twin.start) 0 (Clash 0 0 1) refl
 
+called_sound : Judged called_lift apart (sheet ((0 ∷ []) ∷ (1 ∷ []) ∷ (1 ∷ 2 ∷ []) ∷ (3 ∷ []) ∷ [])) Sound
+unfolding has bit any listed some_job spoils interferes set_of word
+called_sound = verdict_is called_lift apart called_admitted apart_lawful ((0 ∷ []) ∷ (1 ∷ []) ∷ (1 ∷ 2 ∷ []) ∷ (3 ∷ []) ∷ []) (has called_lift.start) 0 Sound refl
+
+called_clash : Judged called_lift apart (sheet ((0 ∷ 1 ∷ []) ∷ [])) (Clash 0 0 1)
+unfolding has bit any listed some_job spoils interferes set_of word
+called_clash = verdict_is called_lift apart called_admitted apart_lawful ((0 ∷ 1 ∷ []) ∷ []) (has called_lift.start) 0 (Clash 0 0 1) refl
+
 pub worked_cases : WorkedCases
 worked_cases = record {
-  admitted = (lift_admitted, without_3_admitted, from_1_4_admitted, twin_admitted);
+  admitted = (lift_admitted, without_3_admitted, from_1_4_admitted, twin_admitted, called_admitted);
   lift_settles = lift_settles;
   lift_distance = lift_told;
   lift_after_three = lift_told_3;
@@ -179,4 +206,6 @@ worked_cases = record {
   from_1_4 = from_1_4_told;
   twin_apart = record { rounds = refl; verdict = twin_sound; distance = twin_told; excess = number 1 refl refl };
   twin_single_file = record { rounds = refl; verdict = twin_clash; distance = twin_single_told; excess = number 2 refl refl };
+  called_lift_0_1_12_3 = record { rounds = refl; verdict = called_sound; distance = called_told; excess = number 4 refl refl };
+  called_lift_01 = record { rounds = refl; verdict = called_clash; distance = called_told; excess = number 4 refl refl };
 }

@@ -5,7 +5,7 @@
 --   Entry T R g p q e       the book is settled after g growings, and e is the entry of {p, q}
 --   Answer T R g rs rep     it is settled, and rep is what judging answers on the rounds rs
 --   report r v d e          the report of r rounds with this verdict, distance and excess
---   WorkedCases             the cases; and that their four tasks are admitted, so that the theorem on lists of calls is
+--   WorkedCases             the cases; and that their five tasks are admitted, so that the theorem on lists of calls is
 --                           true of them
 use Rattle.std.specs.Prelude.{◌≡◌, ℕ, ◌<◌, min, List, [], ◌∷◌, length, ℤ, pos, negsuc, Some, None, Option}
 use Rattle.strips.specs.Rounds.{Round}
@@ -21,7 +21,7 @@ use Rattle.planning.specs.declared.report.Distance.TheVariants.{Told, NoPlan, At
 use Rattle.planning.specs.declared.report.Report.{Report}
 use Rattle.planning.specs.Main.{ToldAfter, EntryAfter}
 use Rattle.planning.specs.Reports.{Excess, Shortest}
-use Rattle.cases.specs.Counts.{lift, lift_without_3, lift_from_1_4, twin, sheet}
+use Rattle.cases.specs.Counts.{lift, lift_without_3, lift_from_1_4, twin, called_lift, sheet}
 
 abbrev pub After : Meaning → Says → ℕ → Distance → Type 0
 After T R g d = (L : ℕ) × Settles T R L × ToldAfter T R L g d
@@ -42,7 +42,7 @@ abbrev pub report : ℕ → Verdict → Distance → Option ℤ → Report
 report r v d e = record { rounds = r; verdict = v; distance = d; excess = e }
 
 pub record WorkedCases : Type 0 where
-  pub admitted : Admitted lift × Admitted lift_without_3 × Admitted lift_from_1_4 × Admitted twin
+  pub admitted : Admitted lift × Admitted lift_without_3 × Admitted lift_from_1_4 × Admitted twin × Admitted called_lift
   -- the fifth growing settles: layer 4 is the first that equals its next
   pub lift_settles : Settles lift apart 4
   pub lift_distance : SettledAfter lift apart 5 (Told 4)
@@ -58,3 +58,6 @@ pub record WorkedCases : Type 0 where
   pub from_1_4 : SettledAfter lift_from_1_4 apart 2 (Told 1)
   pub twin_apart : Answer twin apart 2 (sheet ((0 ∷ 1 ∷ []) ∷ [])) (report 1 Sound (Told 1) (Some (pos 0)))
   pub twin_single_file : Answer twin single_file 3 (sheet ((0 ∷ 1 ∷ []) ∷ [])) (report 1 (Clash 0 0 1) (Told 2) (Some (negsuc 0)))
+  pub called_lift_0_1_12_3 :
+      Answer called_lift apart 5 (sheet ((0 ∷ []) ∷ (1 ∷ []) ∷ (1 ∷ 2 ∷ []) ∷ (3 ∷ []) ∷ [])) (report 4 Sound (Told 4) (Some (pos 0)))
+  pub called_lift_01 : Answer called_lift apart 5 (sheet ((0 ∷ 1 ∷ []) ∷ [])) (report 1 (Clash 0 0 1) (Told 4) (Some (negsuc 2)))

@@ -1,15 +1,25 @@
 //! The bytes that are printed for two files, and for three.
 use crate::names_files::LIFT_NAMES;
 use crate::printing::PAGE;
-use crate::task_files::LIFT;
+use crate::task_files::{CALLED_LIFT, LIFT, RECOUNT};
 use report::text::{page_text, report_text};
 use std::process::Abort;
 use std::test::Fail;
 
+/// Passes if these bytes are printed for the two files.
+fn prints_report(
+    rt: &(impl Abort + AllocGlobal),
+    task: &[u8],
+    plan: &[u8],
+    text: &str,
+) -> Result<(), Fail> {
+    assert_eq!(rt; report_text(rt.alloc(), task, plan)?.as_str(), text);
+    Ok(())
+}
+
 /// Passes if these bytes are printed for the lift count and this sheet file.
 fn prints(rt: &(impl Abort + AllocGlobal), plan: &[u8], text: &str) -> Result<(), Fail> {
-    assert_eq!(rt; report_text(rt.alloc(), LIFT, plan)?.as_str(), text);
-    Ok(())
+    prints_report(rt, LIFT, plan, text)
 }
 
 #[test]
@@ -40,6 +50,28 @@ fn reports_on_the_lift(rt: HostRuntime) -> Result<(), Fail> {
         "rounds 0\ndistance 4\nverdict goal 4\nshortest no\n",
     )?;
     prints(&rt, b"RD\x01\x00RD\x01\x04", "plan refused 10 4\n")
+}
+
+#[test]
+fn what_a_row_adds_holds_though_it_deletes_it(rt: HostRuntime) -> Result<(), Fail> {
+    prints_report(
+        &rt,
+        RECOUNT,
+        b"RD\x01\x00",
+        "rounds 1\ndistance 1\nverdict sound\nshortest yes\n",
+    )?;
+    prints_report(
+        &rt,
+        CALLED_LIFT,
+        b"RD\x01\x00RD\x01\x01RD\x02\x01\x02RD\x01\x03",
+        "rounds 4\ndistance 4\nverdict sound\nshortest yes\n",
+    )?;
+    prints_report(
+        &rt,
+        CALLED_LIFT,
+        b"RD\x02\x00\x01",
+        "rounds 1\ndistance 4\nverdict clash 0 0 1\nshortest no\n",
+    )
 }
 
 #[test]

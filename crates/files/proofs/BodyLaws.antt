@@ -1,21 +1,15 @@
 -- The body of a job record, and the row that it is read into.
-use Rattle.std.proofs.Common.{◌≡◌, ℕ, ◌+◌, true, false, ◌&&◌, List, ◌∷◌, ◌++◌, length, take, drop, get_or, Ok, sym, refl, ap, ◌∙◌, inl, inr, arith, take-append-drop, length-append, length-drop}
+use Rattle.std.proofs.Common.{◌≡◌, ℕ, ◌+◌, List, ◌∷◌, ◌++◌, length, take, drop, get_or, Ok, sym, refl, ap, ◌∙◌, arith, take-append-drop, length-append, length-drop}
 use Rattle.std.proofs.lemmas.List.{drop-drop, drop_more, drop_at, take_all, take_at, length-take-le}
-use Rattle.std.proofs.lemmas.Bool.{cases_Bool, both_ways, and_parts, and_from}
 use Rattle.sets.specs.declared.facts.FactSet.{FactSet}
-use Rattle.sets.specs.Facts.{has}
-use Rattle.sets.specs.Search.{any, listed}
-use Rattle.sets.proofs.FactLaws.{has_below}
-use Rattle.sets.proofs.SearchLaws.{decides_any}
 use Rattle.strips.specs.declared.row.Row.{Row}
-use Rattle.planning.specs.Lists.{clean}
 use Rattle.files.specs.declared.job.JobBody.{JobBody}
 use Rattle.files.specs.Reading.{Split, RowRead}
 use Rattle.files.specs.Sets.{facts_of, ListRead}
 use Rattle.files.specs.TaskFiles.{job_body, RowLimits}
-use Rattle.files.specs.TaskFaults.{Sized, needs_of, adds_of, deletes_of, Meet, BodyFault}
-use Rattle.files.specs.TaskFaults.BodyFault.{wrong_length, needs, adds, deletes, meet}
-use Rattle.files.proofs.FactLists.{facts_are, clean_below, clean_sound, facts_clean, same_facts}
+use Rattle.files.specs.TaskFaults.{Sized, needs_of, adds_of, deletes_of, BodyFault}
+use Rattle.files.specs.TaskFaults.BodyFault.{wrong_length, needs, adds, deletes}
+use Rattle.files.proofs.FactLists.{clean_below, clean_sound, facts_clean, same_facts}
 
 -- the bytes of a job's body: its zone, the lengths of three lists, and the lists
 abbrev parts : ℕ → List ℕ → List ℕ → List ℕ → List ℕ
@@ -38,25 +32,6 @@ body_is b (four, size) =
     let lists : drop 4 b ≡ needs_of b ++ (adds_of b ++ deletes_of b) =
     sym (take-append-drop (get_or b 1 0) (drop 4 b)) ∙ ap (λ (l : List ℕ). needs_of b ++ l) (drop-drop (get_or b 1 0) 4 b ∙ more) in cc
 
--- two sets that have a member in common are read from lists that have one
-sets_meet : (a d : FactSet) (xs ys : List ℕ) → facts_of a ≡ xs → facts_of d ≡ ys
-    → (((f : ℕ) → has a f ≡ true → has d f ≡ false) → ⊥) → Meet xs ys
-sets_meet a d xs ys added deleted joint =
-    elim (cases_Bool (any 128 (λ f. has a f && has d f))) [
-      | inl y ↦
-          let (f, _, both) = (decides_any 128 (λ f. has a f && has d f)).0 y in
-          let (x, z) = and_parts (has a f) (has d f) both in
-          (f, (let l = facts_are a f ∙ x in rw added at l), (let l = facts_are d f ∙ z in rw deleted at l))
-      | inr off ↦
-          absurd (joint (λ f x. elim (cases_Bool (has d f)) [
-            | inl z ↦
-                absurd
-                (both_ways (any 128 (λ f. has a f && has d f)) off
-                ((decides_any 128 (λ f. has a f && has d f)).1 (f, has_below a f x, and_from (has a f) (has d f) x z)))
-            | inr none ↦ none
-          ]))
-    ]
-
 -- what the parts of a body were read into
 module _ (n at : ℕ) (b : List ℕ) (q : JobBody) (needed added deleted : FactSet) (parted : Split b at (Ok q))
     (first : ListRead n q.needs.now at (Ok needed)) (second : ListRead n q.adds.now at (Ok added)) (third : ListRead n q.deletes.now at (Ok deleted)) where
@@ -70,26 +45,16 @@ module _ (n at : ℕ) (b : List ℕ) (q : JobBody) (needed added deleted : FactS
   deletes_are : facts_of deleted ≡ deletes_of b
   deletes_are = third.1 ∙ parted.4
 
-  -- a row, if no fact is both added and deleted
-  pub row_read : ((f : ℕ) → has added f ≡ true → has deleted f ≡ false)
-      → RowRead n b at (Ok (record { zone = q.zone; needs = needed; adds = added; deletes = deleted }))
-  row_read apart =
+  -- a row
+  pub row_read : RowRead n b at (Ok (record { zone = q.zone; needs = needed; adds = added; deletes = deleted }))
+  row_read =
       let limits : RowLimits n (record { zone = q.zone; needs = needed; adds = added; deletes = deleted }) = record {
         needs = clean_below n q.needs.now needed first.0 first.1;
         adds = clean_below n q.adds.now added second.0 second.1;
         deletes = clean_below n q.deletes.now deleted third.0 third.1;
-        not_both = apart;
         plain = (first.2, second.2, third.2);
       } in
       (limits, rw (parted.1, needs_are, adds_are, deletes_are) (body_is b parted.0))
-
-  -- else a body that is at fault
-  pub row_meets : (((f : ℕ) → has added f ≡ true → has deleted f ≡ false) → ⊥) → BodyFault n b 7
-  row_meets meet_each =
-      let clean_first : clean n (needs_of b) ≡ true = rw parted.2 at first.0 in
-      let clean_second : clean n (adds_of b) ≡ true = rw parted.3 at second.0 in
-      let clean_third : clean n (deletes_of b) ≡ true = rw parted.4 at third.0 in
-      meet parted.0 clean_first clean_second clean_third (sets_meet added deleted (adds_of b) (deletes_of b) adds_are deletes_are meet_each) refl
 
 -- the parts of the body of a row
 module _ (r : Row) where
@@ -124,10 +89,6 @@ row_sound n r c limits (needs _ fault) = clean_sound 5 n (facts_of r.needs) c (f
 row_sound n r c limits (adds _ _ fault) = clean_sound 5 n (facts_of r.adds) c (facts_clean n r.adds limits.adds) (rw (row_adds r) at fault)
 row_sound n r c limits (deletes _ _ _ fault) =
     clean_sound 5 n (facts_of r.deletes) c (facts_clean n r.deletes limits.deletes) (rw (row_deletes r) at fault)
-row_sound n r c limits (meet _ _ _ _ (f, added, deleted) _) =
-    let added_is : listed (facts_of r.adds) f ≡ true = rw (row_adds r) at added in
-    let deleted_is : listed (facts_of r.deletes) f ≡ true = rw (row_deletes r) at deleted in
-    both_ways (has r.deletes f) (limits.not_both f (sym (facts_are r.adds f) ∙ added_is)) (sym (facts_are r.deletes f) ∙ deleted_is)
 
 -- the body of a row determines it
 pub same_row : (n m : ℕ) (r q : Row) → RowLimits n r → RowLimits m q → job_body r ≡ job_body q → r ≡ q

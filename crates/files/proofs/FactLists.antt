@@ -99,7 +99,7 @@ rising_listed p k (suc m) f le lt on =
     ]
 
 -- what the list of a set's facts has is what the set has
-pub facts_are : (s : FactSet) (f : ℕ) → listed (facts_of s) f ≡ has s f
+facts_are : (s : FactSet) (f : ℕ) → listed (facts_of s) f ≡ has s f
 facts_are s f = same_test (listed (facts_of s) f) (has s f) there (λ h. rising_listed (has s) 0 128 f (omega arith) (let b = has_below s f h in omega arith) h)
   where
     there : listed (facts_of s) f ≡ true → has s f ≡ true

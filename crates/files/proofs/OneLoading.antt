@@ -5,8 +5,8 @@ use Rattle.strips.specs.declared.row.Row.{Row}
 use Rattle.planning.specs.Refusals.{told}
 use Rattle.files.specs.Records.{Mark, TK, AC, ST, GO, size_at, body_at, place}
 use Rattle.files.specs.Sets.{ListFault}
-use Rattle.files.specs.TaskFaults.{Sized, needs_of, adds_of, deletes_of, Meet, BodyFault, n_of, m_of, TaskFault, JobFault, FactsFault, TaskFileFault, FirstTaskFault}
-use Rattle.files.specs.TaskFaults.BodyFault.{wrong_length, needs, adds, deletes, meet}
+use Rattle.files.specs.TaskFaults.{Sized, needs_of, adds_of, deletes_of, BodyFault, n_of, m_of, TaskFault, JobFault, FactsFault, TaskFileFault, FirstTaskFault}
+use Rattle.files.specs.TaskFaults.BodyFault.{wrong_length, needs, adds, deletes}
 use Rattle.files.specs.TaskFaults.TaskFault.{not_due as task_not_due, wrong_length as task_length, fact_count, few_rows}
 use Rattle.files.specs.TaskFaults.JobFault.{not_due as job_not_due, body}
 use Rattle.files.specs.TaskFaults.FactsFault.{not_due as list_not_due, list}
@@ -25,15 +25,14 @@ facts_fault_once k n file p = once_by checks (due_once file p k (list_fault_once
 
 -- the body of a job
 body_fault_once : (n : ℕ) (b : List ℕ) → Once (BodyFault n b)
-body_fault_once n b = once_by checks (test_once (clean_once 5 n (needs_of b) (clean_once 5 n (adds_of b) (clean_once 5 n (deletes_of b) tells_once))))
+body_fault_once n b = once_by checks (test_once (clean_once 5 n (needs_of b) (clean_once 5 n (adds_of b) (list_fault_once 5 n (deletes_of b)))))
   where
     checks : (c : ℕ) → BodyFault n b c
-        → Test (Sized b) 3 (ListTest 5 n (needs_of b) (ListTest 5 n (adds_of b) (ListTest 5 n (deletes_of b) (Tells (Meet (adds_of b) (deletes_of b)) 7)))) c
+        → Test (Sized b) 3 (ListTest 5 n (needs_of b) (ListTest 5 n (adds_of b) (ListFault 5 n (deletes_of b)))) c
     checks c (wrong_length wrong e) = inl (wrong, e)
     checks c (needs s f) = inr (s, inl f)
     checks c (adds s fine f) = inr (s, inr (fine, inl f))
-    checks c (deletes s fine fine' f) = inr (s, inr (fine, inr (fine', inl f)))
-    checks c (meet s fine fine' fine'' m e) = inr (s, inr (fine, inr (fine', inr (fine'', (m, e)))))
+    checks c (deletes s fine fine' f) = inr (s, inr (fine, inr (fine', f)))
 
 -- a job record
 job_fault_once : (n : ℕ) (file : List ℕ) (p : ℕ) → Once (JobFault n file p)

@@ -1,10 +1,10 @@
 -- What loading a task file answers and writes, on all inputs.
 --
---   Loaded file rows r rows'    loading: the rows of the task are written over the first rows, or the first
---                               fault is told and nothing is written
---   ExactLoading file rows r    a file is refused only if it is the bytes of no task within the limits for
---                               which there are rows enough
---   OneTask                     a file is the bytes of at most one task
+--   Loaded file rows r rows'    loading: the file's rows are written over the first rows, or the first fault is
+--                               told and nothing is written
+--   ExactLoading file rows r    a file is refused only if it is the bytes of no header and rows within the limits
+--                               for which there is room
+--   OneTask                     a file is the bytes of at most one header and one list of rows
 --   SameLoading r s             two answers of loading are one: both accept with headers of the same values, or
 --                               both refuse with the same number and place
 --   OneLoading                  loading a file with rows has one answer, and leaves the rows in one way

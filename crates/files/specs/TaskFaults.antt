@@ -5,7 +5,6 @@
 --
 --   Sized b                    the length of a job's body b is 4 and its three list lengths
 --   needs_of b, adds_of b, deletes_of b    its three lists
---   Meet xs ys                 the two lists have a number in common
 --   BodyFault n b c            the job's body b is at fault, in a task of n facts: refusal c
 --   n_of file, m_of file       the numbers of facts and of jobs, as TK's body has them
 --   TaskFault file rows c      TK is at fault, where that many rows are supplied
@@ -15,7 +14,6 @@
 --                              fault if bytes do
 --   FirstTaskFault file rows c p   refusal c is that of the first record that is at fault, which begins at byte p
 use Rattle.std.specs.Prelude.{◌≡◌, ℕ, suc, ◌+◌, ◌<◌, ◌≤◌, true, List, length, take, drop, ◌≢◌, slice_index}
-use Rattle.sets.specs.Search.{listed}
 use Rattle.strips.specs.Headers.{Limits}
 use Rattle.planning.specs.Lists.{clean}
 use Rattle.files.specs.Records.{Mark, TK, AC, ST, GO, size_at, body_at, place, Due, NotDue}
@@ -33,16 +31,11 @@ adds_of b = take (slice_index b 2) (drop (4 + slice_index b 1) b)
 abbrev pub deletes_of : List ℕ → List ℕ
 deletes_of b = take (slice_index b 3) (drop (4 + slice_index b 1 + slice_index b 2) b)
 
-abbrev pub Meet : List ℕ → List ℕ → Type 0
-Meet xs ys = (f : ℕ) × (listed xs f ≡ true) × (listed ys f ≡ true)
-
 pub data BodyFault (n : ℕ) (b : List ℕ) (c : ℕ) : Type 0 where
   wrong_length : (¬ Sized b) → c ≡ 3 → BodyFault n b c
   needs : Sized b → ListFault 5 n (needs_of b) c → BodyFault n b c
   adds : Sized b → clean n (needs_of b) ≡ true → ListFault 5 n (adds_of b) c → BodyFault n b c
   deletes : Sized b → clean n (needs_of b) ≡ true → clean n (adds_of b) ≡ true → ListFault 5 n (deletes_of b) c → BodyFault n b c
-  meet : Sized b → clean n (needs_of b) ≡ true → clean n (adds_of b) ≡ true → clean n (deletes_of b) ≡ true
-      → Meet (adds_of b) (deletes_of b) → c ≡ 7 → BodyFault n b c
 
 abbrev pub n_of : List ℕ → ℕ
 n_of file = slice_index file 3

@@ -4,22 +4,20 @@
 --                           facts, and the lists
 --   job_bytes r             that record
 --   task_bytes n rows s g   the bytes of a task of n facts with these rows, start and goal
---   RowLimits n r           the facts of row r are below n, none is both added and deleted, and its sets are
---                           nothing but their facts
---   TaskFile h rows file    the file is the bytes of the task of header h and these rows, which are within
---                           the limits
---   SameTask h rows h' rows'   two headers and their rows are one task
+--   RowLimits n r           the facts of row r are below n, and its sets are nothing but their facts; one fact may be
+--                           both added and deleted
+--   TaskFile h rows file    the file is the bytes of the header h and these rows, which are within the limits
+--   SameTask h rows h' rows'   two headers are one, and so are their rows
 --   Bytes xs                every number of the list is a byte
---   InBytes r               the zone of row r is a byte, and so is the length of its job's body
---   TasksWithFiles          the numbers that stand for a task within the limits are all bytes exactly if the zones
---                           of its rows and the lengths of its jobs' bodies are
+--   InBytes r               the zone of row r is a byte, and so is the length of its body
+--   TasksWithFiles          the numbers that stand for a header and rows within the limits are all bytes exactly if
+--                           the zones of the rows and the lengths of their bodies are
 --
--- So a task with a job's body of more than 255 bytes has no file: the length that task_bytes gives that body is
--- no byte.
-use Rattle.std.specs.Prelude.{◌≡◌, ℕ, ◌<◌, ◌↔◌, true, false, List, [], ◌∷◌, ◌++◌, length}
+-- So a header and rows with a body of more than 255 bytes have no file: the length that task_bytes gives that body
+-- is no byte.
+use Rattle.std.specs.Prelude.{◌≡◌, ℕ, ◌<◌, ◌↔◌, List, [], ◌∷◌, ◌++◌, length}
 use Rattle.std.specs.List.{AllByRecursion, flat_map}
 use Rattle.sets.specs.declared.facts.FactSet.{FactSet}
-use Rattle.sets.specs.Facts.{has}
 use Rattle.strips.specs.declared.row.Row.{Row}
 use Rattle.strips.specs.declared.header.Header.{Header}
 use Rattle.strips.specs.Tasks.{Below}
@@ -44,7 +42,6 @@ pub record RowLimits (n : ℕ) (r : Row) : Type 0 where
   pub needs : Below n r.needs
   pub adds : Below n r.adds
   pub deletes : Below n r.deletes
-  pub not_both : (f : ℕ) → has r.adds f ≡ true → has r.deletes f ≡ false
   pub plain : Plain r.needs × Plain r.adds × Plain r.deletes
 
 pub record TaskFile (h : Header) (rows : List Row) (file : List ℕ) : Type 0 where

@@ -27,9 +27,10 @@ fn parse(file: &[u8], rows: usize, read: &mut [Row]) -> Result<Header, Refusal>
 
 /// Loads a task file: writes its `m` rows over the first `m` rows, and gives the header.
 ///
-/// Accepted exactly if the file is the bytes of a task within the limits and there are at least `m` rows;
-/// then the header and the rows written are that task, row `j` with the zone, needs, adds and deletes of job `j`, and
-/// the rows behind them are as they were. The file may have any number of bytes, and is not written.
+/// Accepted exactly if the file is the bytes of a header and rows within the limits, and at least `m` rows are lent;
+/// then these are the header given and the rows written, row `j` with the zone, needs, adds and deletes that the file has
+/// for job `j`, and the rows behind them are as they were. A fact may be in both adds and deletes: the row has it in both,
+/// as the file does, and the job adds it (`Row::job`). The file may have any number of bytes, and is not written.
 ///
 /// Refused at the first record that is at fault, with the byte where it begins, or should begin, as place,
 /// and then no row is written. A task record is due first, then `m` job records, a start record and a goal record. In a
@@ -37,8 +38,7 @@ fn parse(file: &[u8], rows: usize, read: &mut [Row]) -> Result<Header, Refusal>
 /// another mark is due; 3, the length is wrong for its mark: that of a task record isn't 2, that of a job record is
 /// below 4 or isn't 4 and its three list lengths; 4, `n` is 0 or above 128; 9, there are fewer rows than `m`, at place 0,
 /// where the task record begins; then list by list (needs, adds, deletes) and number by number 5, a fact is `n` or above,
-/// and 6, it isn't above the one before it; 7, a fact is both added and deleted. Last comes 8, bytes follow the goal
-/// record, at the first of them.
+/// and 6, it isn't above the one before it. Last comes 8, bytes follow the goal record, at the first of them.
 pub fn load(file: &[u8], rows: &mut [Row]) -> Result<Header, Refusal>
     ensures loaded { Loaded file.now rows.old result rows.new }
     ensures exact { ExactLoading file.now rows.old result }

@@ -3,10 +3,11 @@ ghost use Rattle.files.specs.Loading.{OneTask, OneLoading};
 ghost use Rattle.files.specs.SheetFiles.{OneList, OneReading};
 ghost use Rattle.files.specs.TaskFiles.{TasksWithFiles};
 
-/// The theorem that a task file is the bytes of one task. If a file is the bytes of two tasks, each with its
-/// header and its rows and within the limits, then the two have the same numbers of facts and of jobs, the same
-/// start and goal, and the same rows in the same order. So what loading answers and writes for an accepted
-/// file is fixed by the file.
+/// The theorem that a task file is the bytes of one header and one list of rows. If a file is the bytes of two
+/// headers, each with its rows and within the limits, then the two have the same numbers of facts and of jobs, the same
+/// start and goal, and the same rows in the same order, each with the same adds and the same deletes, also where a fact is
+/// in both. So what loading answers and writes for an accepted file is fixed by the file. (Two files with different rows
+/// may still mean one task: where the rows differ in nothing but deletes that are added.)
 pub fn one_task()
     ensures { OneTask }
 {}
@@ -19,8 +20,8 @@ pub fn one_answer_of_loading()
     ensures { OneLoading }
 {}
 
-/// The theorem on which tasks have a file: those whose jobs' bodies fit a length byte. The bytes of a task within
-/// the limits are all below 256 exactly if, of each of its jobs, the zone is and the body has at most 255 bytes.
+/// The theorem on which headers and rows have a file: those whose rows' bodies fit a length byte. The bytes of a header
+/// and rows within the limits are all below 256 exactly if, of each row, the zone is and the body has at most 255 bytes.
 /// Loading accepts each such file where there are rows enough, as `load` says.
 pub fn tasks_with_files()
     ensures { TasksWithFiles }

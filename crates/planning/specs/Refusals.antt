@@ -13,7 +13,6 @@ use Rattle.planning.specs.declared.refusal.Cause.TheVariants.{
   FactCount,
   NoSuchFact,
   NotRising,
-  AddsMeetDeletes,
   BytesFollow,
   Misfit,
   NoSuchJob,
@@ -33,7 +32,6 @@ number WrongLength = 3
 number FactCount = 4
 number NoSuchFact = 5
 number NotRising = 6
-number AddsMeetDeletes = 7
 number BytesFollow = 8
 number Misfit = 9
 number NoSuchJob = 10

@@ -1,7 +1,7 @@
 //! Refusals: two numbers, the refusal's own and its place.
 ghost use Rattle.planning.specs.Refusals.{number, told, text};
 ghost use Rattle.reach.specs.Tables.{told as table_told};
-ghost use Rattle.std.specs.Prelude.{◌≡◌, Some};
+ghost use Rattle.std.specs.Prelude.{◌≡◌, ◌≢◌, Some};
 ghost use Rattle.verdicts.specs.Sheets.{told as sheet_told};
 
 use reach::table::ShortTable;
@@ -9,7 +9,7 @@ use std::error::Error;
 use std::fmt;
 use verdicts::sheet::ShortSheet;
 
-/// Why a call is refused, by its number.
+/// Why a call is refused, by its number. No cause has the number 7, and none is to get it.
 #[derive(Clone, Copy, Debug, PartialEq, Eq)]
 pub enum Cause {
     /// A file ends before a record that is due does, or is too large to be looked at.
@@ -24,8 +24,6 @@ pub enum Cause {
     NoSuchFact = 5,
     /// Numbers that have to rise strictly don't.
     NotRising = 6,
-    /// A job adds and deletes one fact.
-    AddsMeetDeletes = 7,
     /// Bytes follow the last record.
     BytesFollow = 8,
     /// The memory or the task isn't the right one: there are fewer rows or name places than `m`, fewer entries
@@ -56,9 +54,10 @@ pub struct Refusal {
 
 impl Cause {
     // Beside `From` for `u8`: a clause of `Display` and the docs say `number`.
-    /// The refusal's number.
+    /// The refusal's number. It is never 7.
     pub fn number(self) -> u8
-        ensures { result ≡ number self }
+        ensures value { result ≡ number self }
+        ensures never_7 { result ≢ 7 }
     {
         self as u8
     }

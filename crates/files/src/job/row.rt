@@ -4,13 +4,13 @@ ghost use Rattle.files.specs.Reading.{RowRead};
 
 use crate::facts::fact_list;
 use crate::job::JobBody;
-use planning::refusal::{Cause, Refusal};
+use planning::refusal::Refusal;
 use strips::row::Row;
 
 /// The row that the body of a record at byte `at` gives, in a task of `n` facts.
 ///
-/// Refused at `at`: with 3 for a wrong length; then list by list and number by number with 5 or 6; then with 7
-/// if a fact is both added and deleted.
+/// Refused at `at`: with 3 for a wrong length; then list by list and number by number with 5 or 6. A fact that is both
+/// added and deleted stays in both lists.
 pub(crate) fn row_of(body: &[u8], at: usize, n: u8) -> Result<Row, Refusal>
     requires { n ≤ 128 }
     ensures { RowRead n body.now at result }
@@ -19,9 +19,6 @@ pub(crate) fn row_of(body: &[u8], at: usize, n: u8) -> Result<Row, Refusal>
     let needs = fact_list(parts.needs, n, at)?;
     let adds = fact_list(parts.adds, n, at)?;
     let deletes = fact_list(parts.deletes, n, at)?;
-    if !adds.is_disjoint(deletes) {
-        return Err(Cause::AddsMeetDeletes.at(at));
-    }
     Ok(Row {
         zone: parts.zone,
         needs,
