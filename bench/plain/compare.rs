@@ -10,7 +10,7 @@ use crate::library::{self, Answer, Count};
 use crate::method::{self, SameMethod};
 use crate::model::{Pile, Rule, Task, Verdict};
 use crate::random::Draws;
-use crate::report::{MOST_BYTES, Report};
+use crate::report::{MOST_BYTES, Report, read_sized_task};
 
 /// How many pairs of files are compared if nothing else is asked.
 pub const PAIRS: u64 = 20_000;
@@ -104,6 +104,9 @@ fn compare_reports(pairs: u64) -> Result<(), Difference> {
         for outcome in outcomes_of(&expected) {
             outcomes.count(outcome);
         }
+        for outcome in outcomes_of_deletes(&pair, &expected) {
+            outcomes.count(outcome);
+        }
     }
     kinds.rows.sort();
     println!("{pairs} pairs of files: every report is the same, byte by byte.");
@@ -111,6 +114,10 @@ fn compare_reports(pairs: u64) -> Result<(), Difference> {
         "{by_method} of the distances are by the same method in plain Rust, the others by the definition."
     );
     print!("Kinds of pairs:\n{kinds}Outcomes:\n{outcomes}");
+    println!(
+        "Added and deleted: a row of the task deletes a fact that it adds. As listed: if the job of that row"
+    );
+    println!("deleted the fact, the report would have this verdict instead, or another distance.");
     match outcomes.never() {
         Some(outcome) if pairs >= PAIRS => Err(Difference::new(format!(
             "no pair gave the outcome: {outcome}"
@@ -136,9 +143,9 @@ fn settle(task: &Task, rule: Rule) -> Grown {
 
 /// The outcomes that a report can have.
 fn outcomes_of_reports() -> Vec<String> {
-    let mut outcomes: Vec<String> = (1..=8)
+    let mut outcomes: Vec<String> = [1, 2, 3, 4, 5, 6, 8]
         .map(|number| format!("task refused {number}"))
-        .collect();
+        .to_vec();
     outcomes.push(format!("task over {MOST_BYTES} bytes"));
     outcomes.extend([1, 2, 6, 10, 11].map(|number| format!("plan refused {number}")));
     outcomes.push(format!("plan over {MOST_BYTES} bytes"));
@@ -152,6 +159,12 @@ fn outcomes_of_reports() -> Vec<String> {
             "distance none",
             "sound, shortest",
             "sound, not shortest",
+            "added and deleted",
+            "added and deleted, sound",
+            "as listed, clash",
+            "as listed, missing",
+            "as listed, goal",
+            "as listed, distance",
         ]
         .map(String::from),
     );
@@ -175,9 +188,10 @@ fn outcomes_of(report: &Report) -> Vec<String> {
                 Distance::Told(5..) => "5 and more",
                 Distance::None | Distance::AtLeast(_) => "none",
             };
-            let words = verdict.to_string();
-            let word = words.split(' ').next().unwrap_or_default();
-            let mut outcomes = vec![format!("verdict {word}"), format!("distance {told}")];
+            let mut outcomes = vec![
+                format!("verdict {}", word(verdict)),
+                format!("distance {told}"),
+            ];
             if *verdict == Verdict::Sound {
                 let shortest = if report.is_shortest() {
                     "shortest"
@@ -189,6 +203,45 @@ fn outcomes_of(report: &Report) -> Vec<String> {
             outcomes
         }
     }
+}
+
+/// The word of a verdict, without its numbers.
+fn word(verdict: &Verdict) -> String {
+    let words = verdict.to_string();
+    words.split(' ').take(1).collect()
+}
+
+/// The outcomes of a pair where a row deletes a fact that it adds, with what another report would tell: that on the task
+/// whose jobs delete all that their rows list.
+fn outcomes_of_deletes(pair: &generate::Pair, report: &Report) -> Vec<String> {
+    let task = match read_sized_task(&pair.task_file) {
+        Ok(task) if task.adds_and_deletes() => task,
+        _ => return vec![],
+    };
+    let mut outcomes = vec!["added and deleted".to_string()];
+    let other = Report::for_task(&task.as_listed(), &pair.plan_file, settle);
+    if let (
+        Report::Judged {
+            distance, verdict, ..
+        },
+        Report::Judged {
+            distance: other_distance,
+            verdict: other_verdict,
+            ..
+        },
+    ) = (report, &other)
+    {
+        if *verdict == Verdict::Sound {
+            outcomes.push("added and deleted, sound".to_string());
+        }
+        if verdict != other_verdict {
+            outcomes.push(format!("as listed, {}", word(other_verdict)));
+        }
+        if distance != other_distance {
+            outcomes.push("as listed, distance".to_string());
+        }
+    }
+    outcomes
 }
 
 /// Compares the report of a pair where there is room for it, exactly enough room, and too little.
@@ -323,6 +376,10 @@ struct Compared {
     entries: usize,
     by_definition: usize,
     by_method: usize,
+    /// Files with a row that deletes a fact that it adds.
+    added_and_deleted: usize,
+    /// How often the tables would be others if jobs deleted all that their rows list.
+    others_as_listed: usize,
 }
 
 fn compare_tables(files: u64) -> Result<(), Difference> {
@@ -349,6 +406,15 @@ fn compare_tables(files: u64) -> Result<(), Difference> {
     println!("  {:<24} {:>7}", "by the same method", compared.by_method);
     print!("Sizes of tasks:\n{sizes}");
     println!(
+        "In {} of the files a row deletes a fact that it adds. If its job deleted it, the tables would be others",
+        compared.added_and_deleted
+    );
+    println!(
+        "in {} of the {} cases, a rule and a pile for a file.",
+        compared.others_as_listed,
+        compared.by_definition + compared.by_method
+    );
+    println!(
         "Where the definition would take too long, the tables are set against the same method in plain Rust;"
     );
     println!("everywhere else that method gave the definition's tables too.");
@@ -362,6 +428,7 @@ fn compare_tables_of(
     compared: &mut Compared,
 ) -> Result<(), Difference> {
     let loaded = read_task(file).expect("a table's file is in order");
+    compared.added_and_deleted += usize::from(loaded.adds_and_deletes());
     let draws = &mut Draws::of_seed(number);
     for rule in [0, 1, draws.within(2..=255) as u8] {
         for pile in [0, 1, 2, 3, draws.within(4..=255) as u8] {
@@ -369,6 +436,10 @@ fn compare_tables_of(
             let task = Pile::of_byte(pile).over(&loaded, &count.withheld, &count.start);
             let rule = Rule::of_byte(rule);
             let by_method = history(SameMethod::open(&task, rule));
+            if task.adds_and_deletes() {
+                let as_listed = history(SameMethod::open(&task.as_listed(), rule));
+                compared.others_as_listed += usize::from(as_listed != by_method);
+            }
             let tables = if is_large(&task) {
                 compared.by_method += 1;
                 by_method

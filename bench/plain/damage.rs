@@ -98,30 +98,17 @@ fn damage_numbers(record: &mut Record, draws: &mut Draws) {
     };
 }
 
-/// Damages the four bytes in front of a job's lists, or deletes a fact that is added.
+/// Changes one of the three lengths in front of a job's lists, or moves the bound between two of the lists.
 fn damage_job(record: &mut Record, draws: &mut Draws) {
-    let Some((&[zone, needs, adds, _], lists)) = record.body.split_first_chunk::<4>() else {
+    let Some((head, _)) = record.body.split_first_chunk_mut::<4>() else {
         return;
     };
-    let (needs, adds) = (usize::from(needs), usize::from(adds));
-    if needs + adds > lists.len() {
-        return;
-    }
-    match draws.below(4) {
-        0 => record.body[draws.pick(&[1, 2, 3])] ^= 1,
-        1 => {
-            let (longer, shorter) = draws.pick(&[(1, 2), (2, 1), (2, 3), (3, 2)]);
-            record.body[longer] = record.body[longer].wrapping_add(1);
-            record.body[shorter] = record.body[shorter].wrapping_sub(1);
-        }
-        _ if adds > 0 => {
-            let (needs, lists) = lists.split_at(needs);
-            let (adds, _) = lists.split_at(adds);
-            let deletes = [adds[draws.below(adds.len())]];
-            let changed = Record::of_job(zone, needs, adds, &deletes);
-            *record = changed;
-        }
-        _ => {}
+    if draws.one_in(2) {
+        head[draws.pick(&[1, 2, 3])] ^= 1;
+    } else {
+        let (longer, shorter) = draws.pick(&[(1, 2), (2, 1), (2, 3), (3, 2)]);
+        head[longer] = head[longer].wrapping_add(1);
+        head[shorter] = head[shorter].wrapping_sub(1);
     }
 }
 

@@ -21,12 +21,8 @@ impl Domain {
 
     fn job(&mut self, zone: usize, needs: &[usize], adds: &[usize], deletes: &[usize]) {
         let [needs, adds, deletes] = [needs, adds, deletes].map(set_of);
-        self.jobs.push(Some(Job {
-            zone: zone as u8,
-            needs,
-            adds,
-            deletes,
-        }));
+        let job = Job::new(zone as u8, needs, adds, deletes);
+        self.jobs.push(Some(job));
     }
 
     fn task(self) -> Task {
@@ -45,7 +41,7 @@ fn set_of(facts: &[usize]) -> Facts {
 
 /// A task of a drawn domain, small or, when `large`, of some dozens of facts.
 pub fn textbook(draws: &mut Draws, large: bool) -> Task {
-    match (draws.below(4), large) {
+    let task = match (draws.below(4), large) {
         (0, false) => logistics(
             draws.within(2..=3),
             draws.within(1..=2),
@@ -58,7 +54,23 @@ pub fn textbook(draws: &mut Draws, large: bool) -> Task {
         (2, true) => blocks(4),
         (_, false) => chain(draws.within(2..=12), &[0], draws.one_in(2)),
         (_, true) => chain(draws.within(8..=24), &[0, 5], draws.one_in(4)),
+    };
+    with_overlaps(task, draws)
+}
+
+/// In one of three tasks, lets some jobs add the needs that they keep, and list all their adds among their deletes too,
+/// which alters no round and no layer.
+pub fn with_overlaps(mut task: Task, draws: &mut Draws) -> Task {
+    if draws.one_in(3) {
+        for job in task.jobs.iter_mut().flatten() {
+            if draws.one_in(3) {
+                let kept = job.needs.without(job.deletes);
+                let adds = job.adds.and(kept);
+                *job = Job::new(job.zone, job.needs, adds, job.deletes.and(adds));
+            }
+        }
     }
+    task
 }
 
 /// Trucks, each a zone of its own, carry parcels between places.
@@ -177,4 +189,33 @@ pub fn chain(places: usize, start: &[usize], one_way: bool) -> Task {
         }
     }
     domain.task()
+}
+
+#[cfg(test)]
+mod tests {
+    use super::*;
+    use crate::layers;
+    use crate::model::Rule;
+
+    #[test]
+    fn overlaps_alter_no_layer() {
+        let draws = &mut Draws::of_seed(1);
+        let settled = |task: &Task| {
+            [Rule::Apart, Rule::SingleFile, Rule::Zoned]
+                .map(|rule| layers::grow(task, rule, task.pairs() + 1))
+        };
+        for task in [
+            logistics(2, 2, 2),
+            gripper(2),
+            blocks(2),
+            chain(6, &[0], false),
+        ] {
+            let others: Vec<Task> = (0..20)
+                .map(|_| with_overlaps(task.clone(), draws))
+                .filter(Task::adds_and_deletes)
+                .collect();
+            assert!(!others.is_empty());
+            assert!(others.iter().all(|other| settled(other) == settled(&task)));
+        }
+    }
 }

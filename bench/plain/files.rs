@@ -12,7 +12,6 @@ pub enum Cause {
     FactsOutside = 4,
     FactTooLarge = 5,
     NotRising = 6,
-    AddedAndDeleted = 7,
     BytesBehind = 8,
     WrongMemory = 9,
     JobTooLarge = 10,
@@ -124,16 +123,10 @@ fn read_job(body: &[u8], bound: usize) -> Result<Job, Cause> {
     }
     let (needs, lists) = lists.split_at(needs);
     let (adds, deletes) = lists.split_at(adds);
-    let job = Job {
-        zone,
-        needs: read_facts(needs, bound)?,
-        adds: read_facts(adds, bound)?,
-        deletes: read_facts(deletes, bound)?,
-    };
-    if job.adds.meets(job.deletes) {
-        return Err(Cause::AddedAndDeleted);
-    }
-    Ok(job)
+    let needs = read_facts(needs, bound)?;
+    let adds = read_facts(adds, bound)?;
+    let deletes = read_facts(deletes, bound)?;
+    Ok(Job::new(zone, needs, adds, deletes))
 }
 
 /// Reads a task file of any size, where rows for all jobs are supplied.
@@ -208,7 +201,7 @@ pub fn task_records(task: &Task) -> Vec<Record> {
             job.zone,
             &job.needs.list(),
             &job.adds.list(),
-            &job.deletes.list(),
+            &job.listed_deletes().list(),
         )
     });
     let mut records = vec![Record::new(TASK, numbers)];
@@ -253,6 +246,11 @@ mod tests {
         AC\x07\x00\x01\x01\x01\x01\x00\x01\
         ST\x02\x00\x02\
         GO\x02\x00\x04";
+
+    const RECOUNT: &[u8] = b"TK\x02\x02\x01\
+        AC\x08\x00\x01\x01\x02\x00\x01\x00\x01\
+        ST\x01\x00\
+        GO\x01\x01";
 
     fn refused(file: &[u8]) -> (u8, usize) {
         let refusal = read_task(file).expect_err("the file is at fault");
@@ -301,8 +299,27 @@ mod tests {
         assert_eq!(refused(&changed(3, 129)), (4, 0));
         assert_eq!(refused(&changed(3, 4)), (5, 26));
         assert_eq!(refused(&changed(13, 0)), (6, 5));
-        assert_eq!(refused(&changed(14, 2)), (7, 5));
         assert_eq!(refused(&[LIFT, b"\x00"].concat()), (8, 57));
+    }
+
+    #[test]
+    fn both_lists_are_kept_where_they_overlap() {
+        let file = changed(14, 2);
+        let task = read_task(&file).expect("the file is in order");
+        let job = task.job(0).expect("the job is present");
+        assert_eq!(
+            (job.adds.list(), job.listed_deletes().list()),
+            (vec![2], vec![2])
+        );
+        assert!(job.deletes.is_empty());
+        assert_eq!(bytes_of(&task_records(&task)), file);
+    }
+
+    #[test]
+    fn the_recount_has_24_bytes() {
+        assert_eq!(RECOUNT.len(), 24);
+        assert_eq!(read_task(RECOUNT), Ok(worked::recount()));
+        assert_eq!(bytes_of(&task_records(&worked::recount())), RECOUNT);
     }
 
     #[test]

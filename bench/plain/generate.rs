@@ -105,19 +105,13 @@ fn drawn_task(shape: &Shape, draws: &mut Draws) -> Task {
             let count = draws.within(0..=most);
             draws.facts(count, facts)
         };
-        let (needs, adds) = (list(shape.needs), list(shape.adds));
-        let deletes = list(shape.deletes).without(adds);
+        let [needs, adds, deletes] = [shape.needs, shape.adds, shape.deletes].map(&mut list);
         let zone = if draws.one_in(8) {
             draws.byte()
         } else {
             draws.within(0..=zones) as u8
         };
-        Some(Job {
-            zone,
-            needs,
-            adds,
-            deletes,
-        })
+        Some(Job::new(zone, needs, adds, deletes))
     };
     let mut jobs: Vec<Option<Job>> = (0..shape.jobs).map(|_| job(draws)).collect();
     if shape.jobs > 1 && draws.one_in(8) {
@@ -318,18 +312,16 @@ fn task_of_size(size: Option<usize>, draws: &mut Draws) -> Task {
     };
     let mut facts: Vec<u8> = all.list();
     let mut job = |number: usize| {
+        // From 128 to 256, so that deletes and needs can make up the rest, however many adds there are.
         let count = numbers / MOST_JOBS + usize::from(number < numbers % MOST_JOBS);
-        draws.shuffle(&mut facts);
-        let needs = Facts::named(&facts[..count - MOST_FACTS]);
-        draws.shuffle(&mut facts);
-        let (adds, deletes) = facts.split_at(draws.within(0..=MOST_FACTS));
-        let zone = draws.byte();
-        Some(Job {
-            zone,
-            needs,
-            adds: Facts::named(adds),
-            deletes: Facts::named(deletes),
-        })
+        let adds = draws.within(0..=MOST_FACTS);
+        let rest = count - adds;
+        let deletes = draws.within(rest.saturating_sub(MOST_FACTS)..=rest.min(MOST_FACTS));
+        let [needs, adds, deletes] = [rest - deletes, adds, deletes].map(|length| {
+            draws.shuffle(&mut facts);
+            Facts::named(&facts[..length])
+        });
+        Some(Job::new(draws.byte(), needs, adds, deletes))
     };
     let jobs = (0..MOST_JOBS).map(&mut job).collect();
     Task {
@@ -367,28 +359,29 @@ fn full_size(draws: &mut Draws) -> Count {
 
 fn full_size_task(draws: &mut Draws) -> Task {
     let facts = draws.within(60..=MOST_FACTS);
-    let shape = match draws.below(6) {
-        0 => return domains::chain(facts, &[0, 40], draws.one_in(2)),
-        1 => return domains::gripper(draws.within(14..=31)),
-        2 => return domains::logistics(6, 2, draws.within(5..=8)),
-        3 => Shape {
-            facts,
-            jobs: MOST_JOBS,
-            start: 20,
-            needs: 8,
-            adds: 50,
-            deletes: 50,
-        },
-        _ => Shape {
-            facts,
-            jobs: MOST_JOBS,
-            start: 8,
-            needs: 3,
-            adds: 3,
-            deletes: 2,
-        },
+    let sparse = Shape {
+        facts,
+        jobs: MOST_JOBS,
+        start: 8,
+        needs: 3,
+        adds: 3,
+        deletes: 2,
     };
-    drawn_task(&shape, draws)
+    let dense = Shape {
+        start: 20,
+        needs: 8,
+        adds: 50,
+        deletes: 50,
+        ..sparse
+    };
+    let textbook = match draws.below(6) {
+        0 => domains::chain(facts, &[0, 40], draws.one_in(2)),
+        1 => domains::gripper(draws.within(14..=31)),
+        2 => domains::logistics(6, 2, draws.within(5..=8)),
+        3 => return drawn_task(&dense, draws),
+        _ => return drawn_task(&sparse, draws),
+    };
+    domains::with_overlaps(textbook, draws)
 }
 
 /// A task with a walk, and a goal that the walk reaches, or nearly.

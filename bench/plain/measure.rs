@@ -108,12 +108,7 @@ fn drawn_job(draws: &mut Draws, facts: usize, lists: [(usize, usize); 3]) -> Opt
         let count = draws.within(least..=most);
         draws.facts(count, facts)
     });
-    Some(Job {
-        zone: 0,
-        needs,
-        adds,
-        deletes: deletes.without(adds),
-    })
+    Some(Job::new(0, needs, adds, deletes.without(adds)))
 }
 
 /// Each job moves between two neighbors on a line; the jobs behind those of the whole line repeat them.
@@ -126,12 +121,7 @@ fn chain_task(places: usize, jobs: usize) -> Task {
             (step + 1, step)
         };
         let [from, to] = [from, to].map(|place| Facts::pair(place, place));
-        Some(Job {
-            zone: 0,
-            needs: from,
-            adds: to,
-            deletes: from,
-        })
+        Some(Job::new(0, from, to, from))
     };
     let start = Facts::pair(0, 40 * places / FULL_FACTS);
     without_goal(places, start, (0..jobs).map(job))

@@ -298,8 +298,8 @@ mod tests {
     use crate::model::worked;
 
     #[test]
-    fn the_lift_and_the_twin_are_grown_as_by_the_definition() {
-        for task in [worked::lift(), worked::twin()] {
+    fn the_worked_counts_are_grown_as_by_the_definition() {
+        for task in worked::all() {
             for rule in [Rule::Apart, Rule::SingleFile, Rule::Zoned] {
                 for growings in 0..6 {
                     let by_definition = crate::layers::grow(&task, rule, growings);

@@ -32,21 +32,30 @@ fn sized(file: &[u8]) -> Result<&[u8], Refusal> {
     Ok(file)
 }
 
+/// Reads a task file that may not be larger than the program takes it.
+pub fn read_sized_task(file: &[u8]) -> Result<Task, Refusal> {
+    sized(file).and_then(read_task)
+}
+
 impl Report {
     /// Reads the two files, the task file first, and judges the sheet under the rule apart.
     pub fn of(task_file: &[u8], plan_file: &[u8], settle: Settle) -> Report {
-        let task = match sized(task_file).and_then(read_task) {
-            Ok(task) => task,
-            Err(refusal) => return Report::TaskRefused(refusal),
-        };
+        match read_sized_task(task_file) {
+            Ok(task) => Report::for_task(&task, plan_file, settle),
+            Err(refusal) => Report::TaskRefused(refusal),
+        }
+    }
+
+    /// Reads a sheet file for a task, and judges the sheet under the rule apart.
+    pub fn for_task(task: &Task, plan_file: &[u8], settle: Settle) -> Report {
         let sheet = match sized(plan_file).and_then(|file| read_sheet(file, task.jobs.len())) {
             Ok(sheet) => sheet,
             Err(refusal) => return Report::PlanRefused(refusal),
         };
         Report::Judged {
             rounds: sheet.len(),
-            distance: settle(&task, Rule::Apart).distance(task.goal),
-            verdict: judge(&task, Rule::Apart, &sheet),
+            distance: settle(task, Rule::Apart).distance(task.goal),
+            verdict: judge(task, Rule::Apart, &sheet),
         }
     }
 
@@ -124,6 +133,13 @@ mod tests {
     fn a_pause_makes_a_plan_longer() {
         let text = "rounds 2\ndistance 1\nverdict sound\nshortest no\n";
         assert_eq!(printed(&worked::twin(), &[vec![], vec![0, 1]]), text);
+    }
+
+    #[test]
+    fn a_fact_that_is_added_and_deleted_is_there_after_the_round() {
+        let text = "rounds 1\ndistance 1\nverdict sound\nshortest yes\n";
+        assert_eq!(printed(&worked::recount(), &[vec![0]]), text);
+        assert_eq!(printed(&worked::shared_recount(), &[vec![0, 1]]), text);
     }
 
     #[test]
